@@ -1,0 +1,5 @@
+pub mod Decimal
+pub mod GapSteps
+pub mod Numbers
+pub mod Written
+pub mod Form
