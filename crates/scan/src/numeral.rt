@@ -3,7 +3,6 @@ ghost use mathlib.Core.Path.{_≡_};
 ghost use Prim.Native.Nat.{_+_, _≤_, _<_};
 ghost use lib.ListN.{length, take};
 ghost use Rattle.std.specs.Vec.{made};
-ghost use Rattle.std.specs.shelf.Lists.{leading};
 ghost use Rattle.scan.specs.Reading.{digit, value, digitsOf, whiteAt, told, numeralAnswer, numberAnswer};
 use crate::fault::ScanFault;
 use crate::gap::gap_length;

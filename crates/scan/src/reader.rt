@@ -11,7 +11,7 @@ use crate::numeral::number;
 use refusal::Refusal;
 
 // The longest side of a scan.
-pub const MAX_SIDE: usize = 4096;
+const MAX_SIDE: usize = 4096;
 
 // A scan: its sides, and its levels row after row, lent from the file.
 #[derive(Clone, Copy)]
