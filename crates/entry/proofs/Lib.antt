@@ -1,0 +1,5 @@
+pub mod WordGroup
+pub mod Weights
+pub mod Homomorphism
+pub mod Xor
+pub mod ModularSums
