@@ -1,3 +1,4 @@
+// The energy: a level counts its square, modulo 2 ^ 64.
 ghost use mathlib.Core.Path.{_≡_};
 ghost use Prim.Native.Nat.{ℕ, _*_, _%_, _^_, _<_};
 ghost use Rattle.entry.specs.Words.{word};

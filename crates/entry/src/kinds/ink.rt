@@ -1,3 +1,4 @@
+// The ink count: a level counts 0 or 1, in the words of the whole tally.
 ghost use mathlib.Core.Path.{_≡_};
 ghost use Rattle.entry.specs.Kinds.{ink};
 ghost use Rattle.entry.specs.Numbers.{inkNumbers};

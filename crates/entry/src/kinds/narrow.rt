@@ -1,3 +1,4 @@
+// The narrow tally: a level counts itself, modulo 2 ^ 16.
 ghost use mathlib.Core.Path.{_≡_};
 ghost use Prim.Native.Nat.{ℕ, _%_, _^_};
 ghost use Rattle.entry.specs.Words.{word};

@@ -1,3 +1,4 @@
+// A pair of kinds is a kind.
 ghost use mathlib.Core.Path.{_≡_};
 ghost use Rattle.entry.specs.Kinds.{pair};
 ghost use Rattle.entry.specs.Taken.{taken};

@@ -1,3 +1,4 @@
+// The parity: words of 64 bits with exclusive or; level g changes bit g / 4.
 ghost use mathlib.Core.Path.{_≡_};
 ghost use Prim.Native.Nat.{ℕ, _%_, _^_};
 ghost use Rattle.entry.specs.Words.{word};
