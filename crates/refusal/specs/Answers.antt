@@ -65,6 +65,10 @@ abbrev pub answerOf : {R E A : Type 0} → (R → A) → (E → Refusal) → (E 
 answerOf values reason place (Ok r) = accepted (values r)
 answerOf values reason place (Err e) = refused (numberOf (reason e)) (place e)
 
+-- a result whose fault is the reason alone; the place is then 0
+abbrev pub told : {A : Type 0} → Result A Refusal → Answer A
+told r = answerOf (λ a. a) (λ e. e) (λ e. 0) r
+
 -- a refusal stays as it is; an accepted answer goes on with its values
 abbrev pub andThen : {A B : Type 0} → Answer A → (A → Answer B) → Answer B
 andThen (accepted a) next = next a

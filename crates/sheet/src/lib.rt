@@ -1,0 +1,16 @@
+// A sheet: a table of partial sums over lent memory, fed row by row, then patched, wiped and questioned.
+mod cells;
+mod fill;
+mod finished;
+mod growing;
+mod passes;
+mod rectangle;
+mod rows;
+mod state;
+mod whole;
+
+pub use growing::begin;
+pub use growing::fits;
+pub use rectangle::Rectangle;
+pub use state::Finished;
+pub use state::Growing;
