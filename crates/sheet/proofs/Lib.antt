@@ -5,3 +5,5 @@ pub mod RowSteps
 pub mod Tables
 pub mod Edits
 pub mod Calls
+pub mod Laws
+pub mod Runs

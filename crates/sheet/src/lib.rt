@@ -4,9 +4,11 @@ mod fill;
 mod finished;
 mod growing;
 mod passes;
+mod questions;
 mod rectangle;
 mod rows;
 mod state;
+mod table;
 mod whole;
 
 pub use growing::begin;
@@ -14,3 +16,4 @@ pub use growing::fits;
 pub use rectangle::Rectangle;
 pub use state::Finished;
 pub use state::Growing;
+pub use table::Table;
