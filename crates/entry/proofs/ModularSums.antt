@@ -1,10 +1,10 @@
 -- Numbers of joined entries, over any number of bits. Assumes nothing.
 use mathlib.Core.Path.{_≡_, refl, sym, ap, _∙_}
-use Prim.Native.Nat.{ℕ, zero, suc, _+_, _-_, _*_, _/_, _%_, _^_, _<_, _≤_}
+use Prim.Native.Nat.{ℕ, zero, suc, _+_, _-_, _*_, _%_, _^_, _<_, _≤_}
 use native.Mathlib.Nat.{mod-add-mod, mod-eq-of-lt, zero-mod, suc-mul, div-mul-le-self, mul-le-mul-right}
 use native.Mathlib.Omega.{arith}
 use lib.Pow.{pow-pos}
-use Rattle.entry.specs.Exactness.{Bytes, Exact}
+use Rattle.entry.specs.Exactness.{Exact}
 use Rattle.entry.specs.Sums.{prefix, plainSum, limitOf}
 use Rattle.entry.specs.declared.kind.entry.Entry as entry
 use Rattle.entry.specs.declared.kind.modular.Modular as modular

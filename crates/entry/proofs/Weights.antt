@@ -1,5 +1,5 @@
 -- A word taken a number of times is a product. Assumes nothing.
-use mathlib.Core.Path.{_≡_, refl, sym, ap, _∙_}
+use mathlib.Core.Path.{_≡_, sym, ap, _∙_}
 use Prim.Native.Nat.{ℕ, zero, suc, _+_, _-_, _*_, _%_, _^_, _≤_, _<_}
 use native.Mathlib.Nat.{zero-mul, suc-mul, mul-add, mul-comm, add-mul-mod-self-right, mod-mod, le-trans}
 use native.Mathlib.Omega.{arith}
@@ -11,7 +11,7 @@ use mir.Val.{bits, hbits, ofZ, toZ, SFits}
 use Rattle.std.proofs.shelf.Signed.{toZ-ofZ}
 use Rattle.entry.specs.Kinds.{sums}
 use Rattle.entry.specs.Taken.{copies, taken}
-use Rattle.entry.specs.Words.{Words, word, plus, minus}
+use Rattle.entry.specs.Words.{Words, word, plus}
 use Rattle.entry.proofs.WordGroup.{word-value, word-mod, word-left, word-right}
 
 -- n copies of the word of m

@@ -1,13 +1,13 @@
 -- Addition modulo 2 ^ k makes words of k bits a commutative group. Assumes nothing.
-use mathlib.Core.Path.{_≡_, refl, sym, ap, _∙_}
+use mathlib.Core.Path.{_≡_, sym, ap, _∙_}
 use mathlib.Core.HLevel.{Σ-prop-path}
-use Prim.Native.Nat.{ℕ, zero, suc, _+_, _-_, _*_, _%_, _^_, _≤_, _<_}
+use Prim.Native.Nat.{ℕ, suc, _+_, _-_, _%_, _^_, _<_}
 use native.Mathlib.Bridge.{le-prop}
-use native.Mathlib.Nat.{add-assoc, add-comm, add-zero, mod-add-mod, add-mod-mod, mod-self, mod-eq-of-lt, zero-mod, zero-mul, suc-mul}
+use native.Mathlib.Nat.{add-assoc, add-comm, add-zero, mod-add-mod, add-mod-mod, mod-self, mod-eq-of-lt, zero-mod}
 use native.Mathlib.Omega.{arith}
 use Rattle.entry.specs.Group.{Group}
 use Rattle.entry.specs.Kinds.{sums}
-use Rattle.entry.specs.Words.{Words, word, plus, minus}
+use Rattle.entry.specs.Words.{Words, word}
 
 module _ {k : ℕ} {W : Type 0} (words : Words k W) where
   -- two words of one value are one word

@@ -1,9 +1,9 @@
 -- What is accepted was written so. Assumes nothing.
 use mathlib.Core.Path.{_≡_, refl, sym, ap, subst, _∙_}
-use mathlib.Core.Bool.{Bool, true, false, cond, _&&_, _||_}
+use mathlib.Core.Bool.{true, false, _&&_}
 use mathlib.Core.List.{List, [], _∷_, _++_, append-assoc}
-use mathlib.Core.Logic.{_⊎_, inl, inr, ⊎-elim}
-use Prim.Native.Nat.{ℕ, zero, suc, _+_, _-_, _*_, _<_, _≤_}
+use mathlib.Core.Logic.{_⊎_, ⊎-elim}
+use Prim.Native.Nat.{ℕ, _+_, _-_, _*_, _<_, _≤_}
 use native.Mathlib.Omega.{arith}
 use native.Mathlib.Numerals.{one-add}
 use lib.Dec.{eqb, leb, ltb}
@@ -15,9 +15,9 @@ use Rattle.std.proofs.shelf.Sums.{leading-le-length}
 use Rattle.scan.specs.declared.gap.GapState.{GapState}
 use Rattle.scan.specs.declared.gap.GapState.the-variants.{Start, White, Comment}
 use Rattle.scan.specs.declared.numeral.Numeral.{Numeral}
-use Rattle.refusal.specs.Answers.{Answer, accepted, andThen}
+use Rattle.refusal.specs.Answers.{accepted}
 use Rattle.refusal.proofs.Accepted.{accepted-same, both-accepted, test-passed}
-use Rattle.scan.specs.Reading.{Image, white, digit, value, whiteAt, gapLength, digitsOf, numeralAnswer, numberAnswer, sideAnswer, maxvalAnswer, levelsAnswer, headerAnswer, magic, scanAnswer}
+use Rattle.scan.specs.Reading.{Image, white, digit, value, whiteAt, gapLength, digitsOf, numeralAnswer, numberAnswer, sideAnswer, maxvalAnswer, headerAnswer, magic, scanAnswer}
 use Rattle.scan.specs.Format.{Gap, last, more, comment, Decimal, Number, Side, Written}
 use Rattle.scan.proofs.Numbers.{white-at-drop}
 use Rattle.scan.proofs.GapSteps.{white-first, white-next, comment-opens, gap-over, comment-closes, comment-goes-on}

@@ -1,14 +1,13 @@
 -- What is written is read back. Assumes nothing.
 use mathlib.Core.Path.{_≡_, refl, sym, ap, _∙_}
-use mathlib.Core.Bool.{Bool, true, false, cond, _&&_, _||_}
+use mathlib.Core.Bool.{true, false, _&&_}
 use mathlib.Core.List.{List, [], _∷_, _++_, append-assoc}
 use Prim.Native.Nat.{ℕ, zero, suc, _+_, _-_, _*_, _<_, _≤_}
 use native.Mathlib.Omega.{arith}
-use native.Mathlib.Nat.{add-zero}
 use lib.Dec.{eqb, leb, ltb}
-use lib.ListN.{length, getD, take, drop}
+use lib.ListN.{length, take, drop}
 use Rattle.std.specs.shelf.Lists.{All, leading}
-use Rattle.std.proofs.shelf.Lists.{drop-at, drop-drop, take-at, getD-drop, length-append, length-drop, take-take}
+use Rattle.std.proofs.shelf.Lists.{drop-at, drop-drop, take-at, length-append, length-drop, take-take}
 use Rattle.std.proofs.shelf.Tests.{lt-ltb, le-leb, eq-eqb, and-from, cond-true}
 use Rattle.std.proofs.shelf.Ways.{tells}
 use Rattle.scan.specs.declared.gap.GapState.the-variants.{Start, White, Comment}

@@ -1,5 +1,5 @@
 -- How a scan file is read, and the first fault from the front. Assumes nothing.
-use mathlib.Core.Bool.{Bool, true, false, cond, _&&_, _||_}
+use mathlib.Core.Bool.{Bool, cond, _&&_, _||_}
 use mathlib.Core.List.{List, [], _∷_}
 use Prim.Native.Nat.{ℕ, _+_, _-_, _*_}
 use denote.Ref.{now}
@@ -9,7 +9,7 @@ use Rattle.std.specs.shelf.Lists.{folded, leading}
 use Rattle.std.specs.declared.option.Option.{Option}
 use Rattle.std.specs.declared.option.Option.the-variants.{Some, None}
 use Rattle.std.specs.declared.result.Result.{Result}
-use Rattle.refusal.specs.Answers.{Answer, accepted, refused, answerOf, andThen, ensuring}
+use Rattle.refusal.specs.Answers.{Answer, accepted, answerOf, andThen, ensuring}
 use Rattle.refusal.specs.declared.Layer.the-variants.{Reader}
 use Rattle.refusal.specs.declared.Report.{Report}
 use Rattle.scan.specs.declared.fault.ScanFault.{ScanFault}

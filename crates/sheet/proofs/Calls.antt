@@ -1,8 +1,7 @@
 -- What feeding and finishing make of the table of a page. Assumes nothing.
 use mathlib.Core.Path.{_≡_, refl, sym, ap, subst, _∙_}
-use mathlib.Core.Bool.{true, false, cond}
 use mathlib.Core.List.{List}
-use mathlib.Core.Logic.{_⊎_, inl, inr, _≢_}
+use mathlib.Core.Logic.{inl, inr}
 use Prim.Native.Nat.{ℕ, _+_, _*_, _≤_, _<_}
 use native.Mathlib.Omega.{arith}
 use lib.Dec.{eqb, ltb}
@@ -11,7 +10,7 @@ use Rattle.std.proofs.shelf.Bits.{mul-add-lt, mul-le}
 use Rattle.std.proofs.shelf.Tests.{cases-lt, cond-true, cond-false, eq-eqb, ne-eqb, lt-ltb, le-ltb}
 use Rattle.entry.specs.Sums.{prefix}
 use Rattle.entry.specs.declared.kind.entry.Entry.{Ghosts}
-use Rattle.sheet.specs.Page.{Levels, withRow, withRest}
+use Rattle.sheet.specs.Page.{withRow, withRest}
 use Rattle.sheet.specs.Sheet.{Blank, Past, Renewed}
 use Rattle.sheet.specs.Table.{cell, cornerSum, Cleared, Filled, Summed}
 use Rattle.sheet.proofs.Prefixes.{prefix-same}
@@ -22,13 +21,13 @@ module _ {E : Type 0} (k : Ghosts E) (w h : ℕ) (before after : List E) where
   summed-past : (top bottom : ℕ) (f : ℕ → ℕ → E) → top ≤ bottom → bottom ≤ h → Summed k (w + 1) before top bottom f after → Past w h before after
   summed-past top bottom f lo up so =
       past-kept k w h before after (so .long) (λ i j hi far. so .others i j hi (
-        elim far [
-          | inl none ↦ elim (cases-lt 0 j) [ inl a ↦ inr (omega arith) | inr a ↦ inl (omega arith) ]
-          | inr a ↦ inr (omega arith)
-        ]))
+      elim far [
+        | inl none ↦ elim (cases-lt 0 j) [ inl a ↦ inr (omega arith) | inr a ↦ inl (omega arith) ]
+        | inr a ↦ inr (omega arith)
+      ]))
 
   pub next-laid : (y : ℕ) (row : List ℕ) → length row ≡ w → y < h →
-    Filled k (length row + 1) before (y + 1) 0 (length row + 1) (λ i. k .joined (cell k (length row + 1) before i y) (prefix k (λ x. k .lifted (getD row x 0)) i)) after → Renewed k w h y (y + 1) (withRow y row) before after
+      Filled k (length row + 1) before (y + 1) 0 (length row + 1) (λ i. k .joined (cell k (length row + 1) before i y) (prefix k (λ x. k .lifted (getD row x 0)) i)) after → Renewed k w h y (y + 1) (withRow y row) before after
   unfolding Renewed
   next-laid y row long lt so =
       let f : ℕ → ℕ → E = λ i j. prefix k (λ x. k .lifted (getD row x 0)) i in

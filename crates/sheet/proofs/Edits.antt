@@ -1,25 +1,23 @@
 -- A rectangle of levels laid over a table. Assumes nothing.
-use mathlib.Core.Path.{_≡_, refl, sym, ap, subst, _∙_}
-use mathlib.Core.Bool.{Bool, true, false, cond, _&&_}
+use mathlib.Core.Path.{_≡_, sym, ap, subst, _∙_}
+use mathlib.Core.Bool.{true, false}
 use mathlib.Core.List.{List}
-use mathlib.Core.Logic.{_⊎_, inl, inr, _≢_}
+use mathlib.Core.Logic.{_⊎_, inl, inr}
 use Prim.Native.Nat.{ℕ, zero, suc, _+_, _-_, _*_, _≤_, _<_}
 use native.Mathlib.Numerals.{add-one}
 use native.Mathlib.Omega.{arith}
-use lib.Dec.{leb}
-use Rattle.std.proofs.shelf.Tests.{cases-lt, cond-true, cond-false, le-leb, lt-leb, and-from}
+use Rattle.std.proofs.shelf.Tests.{cases-lt, cond-true, cond-false}
 use Rattle.std.proofs.shelf.Ways.{tells}
 use Rattle.entry.specs.Group.{Group}
 use Rattle.entry.specs.Sums.{prefix}
 use Rattle.entry.specs.declared.kind.entry.Entry.{Ghosts}
-use Rattle.sheet.specs.declared.fill.Fill.{Fill}
 use Rattle.sheet.specs.declared.rectangle.Rectangle.{Rectangle}
 use Rattle.sheet.specs.declared.rows.Sign.the-variants.{Plus, Minus}
 use Rattle.sheet.specs.Fill.{levelAt}
 use Rattle.sheet.specs.Page.{Levels, columns, covers, overlaid}
 use Rattle.sheet.specs.Sheet.{Past, Renewed, EditLaw}
 use Rattle.sheet.specs.Table.{cell, cornerSum, less, prefixFrom, Added, Rewritten, TableOf}
-use Rattle.sheet.proofs.Prefixes.{from-same, prefix-same, corner-same, corner-row, less-left, shifted, prefix-split, from-prefix, corner-columns, corner-rows}
+use Rattle.sheet.proofs.Prefixes.{prefix-same, corner-same, corner-row, less-left, shifted, prefix-split, from-prefix, corner-columns, corner-rows}
 use Rattle.sheet.proofs.Tables.{past-kept}
 
 -- off the rectangle
@@ -45,8 +43,8 @@ module _ {E : Type 0} {k : Ghosts E} (laws : Group k) (w h : ℕ) (r : Rectangle
 
   edit-past : Past w h t0 t3
   edit-past = past-kept k w h t0 t3 (p3 .long ∙ p2 .long ∙ p1 .long) (λ i j hi far.
-    let past : h < j = elim far [ inl none ↦ absurd (omega arith) | inr a ↦ a ] in
-    p3 .others i j hi (inr (inr (omega arith))) ∙ p2 .others i j hi (inr (inr (omega arith))) ∙ p1 .others i j hi (inr (inr (omega arith))))
+      let past : h < j = elim far [ inl none ↦ absurd (omega arith) | inr a ↦ a ] in
+      p3 .others i j hi (inr (inr (omega arith))) ∙ p2 .others i j hi (inr (inr (omega arith))) ∙ p1 .others i j hi (inr (inr (omega arith))))
 
   module _ (p : Levels) (was : TableOf k w h h (λ x y. k .lifted (p x y)) t0) where
     abbrev old : ℕ → ℕ → E
@@ -71,19 +69,19 @@ module _ {E : Type 0} {k : Ghosts E} (laws : Group k) (w h : ℕ) (r : Rectangle
 
     -- the sum of a new page row, up to a column of the rectangle
     row-sum : (x j : ℕ) → r .left ≤ x → x ≤ last → r .top ≤ j → j ≤ r .bottom →
-      prefixFrom k (less k (cell k (w + 1) t1 (r .left) (j + 1)) (cell k (w + 1) t1 (r .left) j)) (λ n. k .lifted (f ((j - r .top) * columns r + (r .left + n - r .left)))) (x - r .left) ≡ prefix k (λ i. new i j) x
+        prefixFrom k (less k (cell k (w + 1) t1 (r .left) (j + 1)) (cell k (w + 1) t1 (r .left) j)) (λ n. k .lifted (f ((j - r .top) * columns r + (r .left + n - r .left)))) (x - r .left) ≡ prefix k (λ i. new i j) x
     row-sum x j lo up low high =
         let a = r .left in
         let n = x - a in
         let before : less k (cell k (w + 1) t1 a (j + 1)) (cell k (w + 1) t1 a j) ≡ prefix k (λ i. new i j) a =
-            ap (λ v. less k v (cell k (w + 1) t1 a j)) (first a (j + 1) (omega arith) (omega arith) ∙ corner-row k old a j)
-            ∙ ap (less k (k .joined (cornerSum k old a j) (prefix k (λ i. old i j) a))) (first a j (omega arith) (omega arith))
-            ∙ less-left laws (cornerSum k old a j) (prefix k (λ i. old i j) a)
-            ∙ prefix-same k (λ i. old i j) (λ i. new i j) a (λ i hi. kept i j (inl hi)) in
+        ap (λ v. less k v (cell k (w + 1) t1 a j)) (first a (j + 1) (omega arith) (omega arith) ∙ corner-row k old a j)
+        ∙ ap (less k (k .joined (cornerSum k old a j) (prefix k (λ i. old i j) a))) (first a j (omega arith) (omega arith))
+        ∙ less-left laws (cornerSum k old a j) (prefix k (λ i. old i j) a)
+        ∙ prefix-same k (λ i. old i j) (λ i. new i j) a (λ i hi. kept i j (inl hi)) in
         let laid : ℕ → E = λ m. k .lifted (f ((j - r .top) * columns r + (a + m - a))) in
         let start = less k (cell k (w + 1) t1 a (j + 1)) (cell k (w + 1) t1 a j) in
         let levels : prefix k laid n ≡ prefix k (λ m. new (a + m) j) n =
-            prefix-same k laid (λ m. new (a + m) j) n (λ m hm. ap (k .lifted) (sym (cond-true (covers r (a + m) j) _ (p (a + m) j) (covered r (a + m) j (omega arith) (omega arith) low high)))) in
+        prefix-same k laid (λ m. new (a + m) j) n (λ m hm. ap (k .lifted) (sym (cond-true (covers r (a + m) j) _ (p (a + m) j) (covered r (a + m) j (omega arith) (omega arith) low high)))) in
         let whole : a + n ≡ x = omega arith in
         from-prefix laws start laid n ∙ ap (λ v. k .joined v (prefix k laid n)) before ∙ ap (k .joined (prefix k (λ i. new i j) a)) levels ∙ sym (prefix-split laws (λ i. new i j) a n) ∙ ap (prefix k (λ i. new i j)) whole
 
@@ -104,7 +102,7 @@ module _ {E : Type 0} {k : Ghosts E} (laws : Group k) (w h : ℕ) (r : Rectangle
           let tail = λ (e : ℕ → ℕ → E). cornerSum k (λ i j. e (last + i) j) n (m + 1) in
           let same : tail old ≡ tail new = corner-same k (λ i j. old (last + i) j) (λ i j. new (last + i) j) n (m + 1) (λ i j hi hj. kept (last + i) j (inr (inl (omega arith)))) in
           let a : cell k (w + 1) t1 x (m + 1) ≡ k .joined (cornerSum k old last (m + 1)) (tail old) =
-              first x (m + 1) hx (omega arith) ∙ ap (λ c. cornerSum k old c (m + 1)) (sym whole) ∙ corner-columns laws old last n (m + 1) in
+          first x (m + 1) hx (omega arith) ∙ ap (λ c. cornerSum k old c (m + 1)) (sym whole) ∙ corner-columns laws old last n (m + 1) in
           let b = first last (m + 1) (omega arith) (omega arith) in
           let c = inside last (omega arith) (omega arith) in
           let d = p2 .beyond x m (omega arith) lo low (omega arith) in
@@ -129,21 +127,21 @@ module _ {E : Type 0} {k : Ghosts E} (laws : Group k) (w h : ℕ) (r : Rectangle
     under : (x y : ℕ) → x ≤ w → y ≤ h → below < y → cell k (w + 1) t3 x y ≡ cornerSum k new x y
     under x y hx hy lo = elim (cases-lt (r .left) x) [
       | inl right ↦
-        let n = y - below in
-        let whole : below + n ≡ y = omega arith in
-        let tail = λ (e : ℕ → ℕ → E). cornerSum k (λ i j. e i (below + j)) x n in
-        let same : tail old ≡ tail new = corner-same k (λ i j. old i (below + j)) (λ i j. new i (below + j)) x n (λ i j hi hj. kept i (below + j) (inr (inr (inr (omega arith))))) in
-        let a = p3 .rows x y (omega arith) (omega arith) (omega arith) (omega arith) in
-        let b = rows below x hx (omega arith) in
-        let c = p2 .others x y (omega arith) (inr (inr lo)) ∙ p1 .rows x y (omega arith) (omega arith) (omega arith) (omega arith) in
-        let d : cell k (w + 1) t0 x y ≡ k .joined (cornerSum k old x below) (tail old) = was .entry x y hx hy ∙ ap (cornerSum k old x) (sym whole) ∙ corner-rows laws old x below n in
-        let e = was .entry x below hx (omega arith) in
-        let left : cell k (w + 1) t2 x y ≡ less k (k .joined (cornerSum k old x below) (tail old)) (cornerSum k old x below) = cc in
-        let rest : cell k (w + 1) t2 x y ≡ tail new = left ∙ less-left laws (cornerSum k old x below) (tail old) ∙ same in
-        let joined : cell k (w + 1) t3 x y ≡ k .joined (tail new) (cornerSum k new x below) = cc in
-        joined ∙ laws .commutative (tail new) (cornerSum k new x below) ∙ sym (corner-rows laws new x below n) ∙ ap (cornerSum k new x) whole
+          let n = y - below in
+          let whole : below + n ≡ y = omega arith in
+          let tail = λ (e : ℕ → ℕ → E). cornerSum k (λ i j. e i (below + j)) x n in
+          let same : tail old ≡ tail new = corner-same k (λ i j. old i (below + j)) (λ i j. new i (below + j)) x n (λ i j hi hj. kept i (below + j) (inr (inr (inr (omega arith))))) in
+          let a = p3 .rows x y (omega arith) (omega arith) (omega arith) (omega arith) in
+          let b = rows below x hx (omega arith) in
+          let c = p2 .others x y (omega arith) (inr (inr lo)) ∙ p1 .rows x y (omega arith) (omega arith) (omega arith) (omega arith) in
+          let d : cell k (w + 1) t0 x y ≡ k .joined (cornerSum k old x below) (tail old) = was .entry x y hx hy ∙ ap (cornerSum k old x) (sym whole) ∙ corner-rows laws old x below n in
+          let e = was .entry x below hx (omega arith) in
+          let left : cell k (w + 1) t2 x y ≡ less k (k .joined (cornerSum k old x below) (tail old)) (cornerSum k old x below) = cc in
+          let rest : cell k (w + 1) t2 x y ≡ tail new = left ∙ less-left laws (cornerSum k old x below) (tail old) ∙ same in
+          let joined : cell k (w + 1) t3 x y ≡ k .joined (tail new) (cornerSum k new x below) = cc in
+          joined ∙ laws .commutative (tail new) (cornerSum k new x below) ∙ sym (corner-rows laws new x below n) ∙ ap (cornerSum k new x) whole
       | inr le ↦
-        p3 .others x y (omega arith) (inl (omega arith)) ∙ p2 .others x y (omega arith) (inl le) ∙ p1 .others x y (omega arith) (inl (omega arith)) ∙ was .entry x y hx hy ∙ same-left x y le
+          p3 .others x y (omega arith) (inl (omega arith)) ∙ p2 .others x y (omega arith) (inl le) ∙ p1 .others x y (omega arith) (inl (omega arith)) ∙ was .entry x y hx hy ∙ same-left x y le
     ]
 
     edit-table : TableOf k w h h (λ x y. k .lifted (overlaid r f p x y)) t3

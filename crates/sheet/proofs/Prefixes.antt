@@ -1,6 +1,6 @@
 -- Joinings of many entries. Assumes nothing.
 use mathlib.Core.Path.{_≡_, refl, sym, ap, _∙_}
-use Prim.Native.Nat.{ℕ, zero, suc, _+_, _*_, _/_, _%_, _≤_, _<_}
+use Prim.Native.Nat.{ℕ, zero, suc, _+_, _*_, _/_, _%_, _<_}
 use native.Mathlib.Nat.{mul-zero, mul-suc, mul-comm}
 use native.Mathlib.Numerals.{add-one}
 use native.Mathlib.Omega.{arith}
@@ -69,8 +69,8 @@ module _ {E : Type 0} {k : Ghosts E} (laws : Group k) where
       let u = less k (k .joined p (k .joined q r)) (k .joined t q) in
       let v = less k u p in
       same-left (k .joined p q) (k .joined v t) r
-        (swap-mid p q v t ∙ ap (λ x. k .joined x (k .joined q t)) (laws .commutative p v ∙ less-back u p) ∙ ap (k .joined u) (laws .commutative q t)
-        ∙ less-back (k .joined p (k .joined q r)) (k .joined t q) ∙ sym (laws .associative p q r))
+      (swap-mid p q v t ∙ ap (λ x. k .joined x (k .joined q t)) (laws .commutative p v ∙ less-back u p) ∙ ap (k .joined u) (laws .commutative q t)
+      ∙ less-back (k .joined p (k .joined q r)) (k .joined t q) ∙ sym (laws .associative p q r))
 
   -- a part that two sums have in common, shifted from the one to the other
   pub shifted : (a a′ r : E) → k .joined (k .joined a r) (less k a′ a) ≡ k .joined a′ r
@@ -110,22 +110,22 @@ module _ {E : Type 0} {k : Ghosts E} (laws : Group k) where
       let g : ℕ → E = λ n. e (a + n % w) (c + n / w) in
       ap (λ v. k .joined v (prefix k (λ i. e (a + i) (c + t)) w)) (read-rows e a c w t some)
       ∙ ap (k .joined (prefix k g (w * t))) (prefix-same k (λ i. e (a + i) (c + t)) (λ i. g (w * t + i)) w (λ i hi.
-          let at : w * t + i ≡ t * w + i = ap (λ m. m + i) (mul-comm w t) in
-          let col : (w * t + i) % w ≡ i = ap (λ m. m % w) at ∙ mod-mul-add t w i hi in
-          let row : (w * t + i) / w ≡ t = ap (λ m. m / w) at ∙ div-mul-add t w i hi in
-          sym (ap (λ m. e (a + m) (c + (w * t + i) / w)) col ∙ ap (λ m. e (a + i) (c + m)) row)))
+      let at : w * t + i ≡ t * w + i = ap (λ m. m + i) (mul-comm w t) in
+      let col : (w * t + i) % w ≡ i = ap (λ m. m % w) at ∙ mod-mul-add t w i hi in
+      let row : (w * t + i) / w ≡ t = ap (λ m. m / w) at ∙ div-mul-add t w i hi in
+      sym (ap (λ m. e (a + m) (c + (w * t + i) / w)) col ∙ ap (λ m. e (a + i) (c + m)) row)))
       ∙ sym (prefix-split g (w * t) w)
       ∙ ap (prefix k g) (sym (mul-suc w t))
 
   -- the four corners of a rectangle of w columns from a on and t rows from c on
   pub four-corners : (e : ℕ → ℕ → E) (a c w t : ℕ) → 0 < w →
-    k .joined (less k (less k (cornerSum k e (a + w) (c + t)) (cornerSum k e a (c + t))) (cornerSum k e (a + w) c)) (cornerSum k e a c) ≡ prefix k (λ n. e (a + n % w) (c + n / w)) (w * t)
+      k .joined (less k (less k (cornerSum k e (a + w) (c + t)) (cornerSum k e a (c + t))) (cornerSum k e (a + w) c)) (cornerSum k e a c) ≡ prefix k (λ n. e (a + n % w) (c + n / w)) (w * t)
   four-corners e a c w t some =
       let rest = λ (i j : ℕ). e i (c + j) in
       let before = cornerSum k rest a t in
       let inner = cornerSum k (λ i j. e (a + i) (c + j)) w t in
       let all : cornerSum k e (a + w) (c + t) ≡ k .joined (cornerSum k e (a + w) c) (k .joined before inner) =
-          corner-rows e (a + w) c t ∙ ap (k .joined (cornerSum k e (a + w) c)) (corner-columns rest a w t) in
+      corner-rows e (a + w) c t ∙ ap (k .joined (cornerSum k e (a + w) c)) (corner-columns rest a w t) in
       let left : cornerSum k e a (c + t) ≡ k .joined (cornerSum k e a c) before = corner-rows e a c t in
       ap (λ v. k .joined (less k (less k v (cornerSum k e a (c + t))) (cornerSum k e (a + w) c)) (cornerSum k e a c)) all
       ∙ ap (λ v. k .joined (less k (less k (k .joined (cornerSum k e (a + w) c) (k .joined before inner)) v) (cornerSum k e (a + w) c)) (cornerSum k e a c)) left

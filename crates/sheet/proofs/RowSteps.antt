@@ -1,10 +1,10 @@
 -- Rows of a table, one after another. Assumes nothing.
 use mathlib.Core.Path.{_≡_, refl, sym, ap, subst, _∙_}
 use mathlib.Core.List.{List}
-use mathlib.Core.Logic.{_⊎_, inl, inr, _≢_}
-use Prim.Native.Nat.{ℕ, _+_, _-_, _*_, _≤_, _<_}
+use mathlib.Core.Logic.{inl, inr}
+use Prim.Native.Nat.{ℕ, _+_, _-_, _≤_, _<_}
 use native.Mathlib.Omega.{arith}
-use Rattle.std.proofs.shelf.Tests.{cases-lt, cases-eq}
+use Rattle.std.proofs.shelf.Tests.{cases-lt}
 use Rattle.entry.specs.declared.kind.entry.Entry.{Ghosts}
 use Rattle.sheet.specs.declared.rows.Sign.{Sign}
 use Rattle.sheet.specs.Table.{cell, less, signed, prefixFrom, Filled, Summed, Added, Rewritten}
@@ -46,8 +46,8 @@ module _ {E : Type 0} (k : Ghosts E) (s y left right : ℕ) (t0 t1 t2 : List E) 
     long = p2 .long ∙ p1 .long;
     inside = λ i j hi lo up low high. let e : y ≡ j = omega arith in subst (λ m. cell k s t2 i (m + 1) ≡ k .joined (cell k s t2 i m) (prefixFrom k (start m) (λ n. f (left + n) m) (i - left))) e (inside i hi lo up);
     beyond = λ i j hi lo low high.
-      let e : y ≡ j = omega arith in
-      subst (λ m. cell k s t2 i (m + 1) ≡ k .joined (cell k s t0 i (m + 1)) (less k (cell k s t2 right (m + 1)) (cell k s t0 right (m + 1)))) e (beyond i hi lo);
+        let e : y ≡ j = omega arith in
+        subst (λ m. cell k s t2 i (m + 1) ≡ k .joined (cell k s t0 i (m + 1)) (less k (cell k s t2 right (m + 1)) (cell k s t0 right (m + 1)))) e (beyond i hi lo);
     others = λ i j hi out. elim out [
       | inl le ↦ p2 .others i j hi (inl (omega arith)) ∙ p1 .others i j hi (inl (omega arith))
       | inr (inl up) ↦ p2 .others i j hi (inr (inr (λ e. omega arith))) ∙ p1 .others i j hi (inr (inr (λ e. omega arith)))
@@ -66,8 +66,8 @@ module _ {E : Type 0} (k : Ghosts E) (s : ℕ) (before : List E) where
     rows = λ i j hi lo up. elim (cases-lt j y) [
       | inl lt ↦ row .others i (j + 1) hi (inr (inr (λ e. omega arith))) ∙ so .rows i j hi lo lt ∙ ap (λ v. k .joined v (h i j)) (sym (row .others i j hi (inr (inr (λ e. omega arith)))))
       | inr ge ↦
-        let e : y ≡ j = omega arith in
-        subst (λ m. cell k s next i (m + 1) ≡ k .joined (cell k s next i m) (h i m)) e (row .here i hi (omega arith) hi ∙ is i hi ∙ ap (λ v. k .joined v (h i y)) (sym (row .others i y hi (inr (inr (λ e. omega arith))))))
+          let e : y ≡ j = omega arith in
+          subst (λ m. cell k s next i (m + 1) ≡ k .joined (cell k s next i m) (h i m)) e (row .here i hi (omega arith) hi ∙ is i hi ∙ ap (λ v. k .joined v (h i y)) (sym (row .others i y hi (inr (inr (λ e. omega arith))))))
     ];
     others = λ i j hi out. elim out [
       | inl l ↦ row .others i j hi (inr (inr (λ e. omega arith))) ∙ so .others i j hi (inl l)
@@ -80,18 +80,18 @@ module _ {E : Type 0} (k : Ghosts E) (s : ℕ) (before : List E) where
   added-none left top base sign = record { long = refl; rows = λ i j hi far low high. absurd (omega arith); others = λ i j hi out. refl }
 
   pub added-more : (left top y base : ℕ) (sign : Sign) (after next : List E) → base < top → top ≤ y → Added k s before left top y base sign after →
-    Filled k s after y left s (λ i. k .joined (cell k s after i y) (signed k sign (cell k s after i base))) next → Added k s before left top (y + 1) base sign next
+      Filled k s after y left s (λ i. k .joined (cell k s after i y) (signed k sign (cell k s after i base))) next → Added k s before left top (y + 1) base sign next
   added-more left top y base sign after next far low so row = record {
     long = row .long ∙ so .long;
     rows = λ i j hi col lo up. elim (cases-lt j y) [
       | inl lt ↦ row .others i j hi (inr (inr (λ e. omega arith))) ∙ so .rows i j hi col lo lt
       | inr ge ↦
-        let e : y ≡ j = omega arith in
-        let here = so .others i y hi (inr (inr (omega arith))) in
-        let from = so .others i base hi (inr (inl (omega arith))) in
-        let is = row .here i hi col hi in
-        let new : cell k s next i y ≡ k .joined (cell k s before i y) (signed k sign (cell k s before i base)) = cc in
-        subst (λ m. cell k s next i m ≡ k .joined (cell k s before i m) (signed k sign (cell k s before i base))) e new
+          let e : y ≡ j = omega arith in
+          let here = so .others i y hi (inr (inr (omega arith))) in
+          let from = so .others i base hi (inr (inl (omega arith))) in
+          let is = row .here i hi col hi in
+          let new : cell k s next i y ≡ k .joined (cell k s before i y) (signed k sign (cell k s before i base)) = cc in
+          subst (λ m. cell k s next i m ≡ k .joined (cell k s before i m) (signed k sign (cell k s before i base))) e new
     ];
     others = λ i j hi out. elim out [
       | inl l ↦ row .others i j hi (inl l) ∙ so .others i j hi (inl l)
@@ -135,19 +135,19 @@ module _ {E : Type 0} (k : Ghosts E) (s : ℕ) (before : List E) where
       long = row .long ∙ so .long;
       inside = λ i j hi lo up low high. elim (cases-lt j y) [
         | inl lt ↦
-          let is = so .inside i j hi lo up low lt in
-          row .others i (j + 1) hi (inr (inl (omega arith))) ∙ is ∙ ap (λ v. k .joined v (sums f before i j)) (sym (row .others i j hi (inr (inl (omega arith)))))
+            let is = so .inside i j hi lo up low lt in
+            row .others i (j + 1) hi (inr (inl (omega arith))) ∙ is ∙ ap (λ v. k .joined v (sums f before i j)) (sym (row .others i j hi (inr (inl (omega arith)))))
         | inr ge ↦ let e : y ≡ j = omega arith in subst (λ m. cell k s next i (m + 1) ≡ k .joined (cell k s next i m) (sums f before i m)) e (inside-more i hi lo up)
       ];
       beyond = λ i j hi lo low high. elim (cases-lt j y) [
         | inl lt ↦
-          let is = so .beyond i j hi lo low lt in
-          let a = row .others i (j + 1) hi (inr (inl (omega arith))) in
-          let b = row .others right (j + 1) on (inr (inl (omega arith))) in
-          cc
+            let is = so .beyond i j hi lo low lt in
+            let a = row .others i (j + 1) hi (inr (inl (omega arith))) in
+            let b = row .others right (j + 1) on (inr (inl (omega arith))) in
+            cc
         | inr ge ↦
-          let e : y ≡ j = omega arith in
-          subst (λ m. cell k s next i (m + 1) ≡ k .joined (cell k s before i (m + 1)) (less k (cell k s next right (m + 1)) (cell k s before right (m + 1)))) e (beyond-more i hi lo)
+            let e : y ≡ j = omega arith in
+            subst (λ m. cell k s next i (m + 1) ≡ k .joined (cell k s before i (m + 1)) (less k (cell k s next right (m + 1)) (cell k s before right (m + 1)))) e (beyond-more i hi lo)
       ];
       others = λ i j hi out. elim out [
         | inl l ↦ row .others i j hi (inl l) ∙ so .others i j hi (inl l)

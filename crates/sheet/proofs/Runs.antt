@@ -1,9 +1,9 @@
 -- After any run the sheet's table is that of its plain page. Assumes nothing.
 use mathlib.Core.Path.{_≡_, refl, sym, ap, subst, _∙_}
-use mathlib.Core.Bool.{true, cond, _&&_}
+use mathlib.Core.Bool.{true, _&&_}
 use mathlib.Core.List.{List}
 use mathlib.Core.Logic.{inl, inr}
-use Prim.Native.Nat.{ℕ, _+_, _-_, _*_, _≤_, _<_}
+use Prim.Native.Nat.{ℕ, _+_, _-_, _≤_, _<_}
 use native.Mathlib.Omega.{arith}
 use lib.Dec.{leb, ltb}
 use lib.ListN.{length, getD}
@@ -16,8 +16,8 @@ use Rattle.entry.specs.declared.kind.entry.Entry.{Ghosts}
 use Rattle.refusal.specs.Answers.{Answer, accepted, refused, ensuring, told}
 use Rattle.refusal.specs.declared.Refusal.{Refusal}
 use Rattle.sheet.specs.declared.rectangle.Rectangle.{Rectangle}
-use Rattle.sheet.specs.Page.{Page, Levels, capped, ifAccepted, blank, begin, fitsAnswer, feed, feedAnswer, withRow, withRest, finish, edited, overlaid, wipe, wipeAnswer, patch, patchAnswer, onSheet, columns, lines, area}
-use Rattle.sheet.specs.Run.{GrowingRun, FinishedRun, begun, fed, ended, wiped, patched, reading, pageSum, Agree, RunsAgree}
+use Rattle.sheet.specs.Page.{Page, Levels, capped, ifAccepted, blank, begin, fitsAnswer, feed, feedAnswer, withRow, withRest, finish, edited, overlaid, wipeAnswer, patchAnswer, onSheet, columns, lines, area}
+use Rattle.sheet.specs.Run.{GrowingRun, FinishedRun, begun, fed, ended, wiped, patched, reading, pageSum, RunsAgree}
 use Rattle.sheet.specs.Sheet.{GrowingState, FinishedState, Holds, RowFed, Fed, Ended, Edited, Renewed, fourCorners, sumAnswer}
 use Rattle.sheet.specs.Table.{cell, cornerSum, less}
 use Rattle.sheet.proofs.Prefixes.{four-corners}
@@ -47,7 +47,7 @@ record FinishedLike {E : Type 0} (k : Ghosts E) (s : FinishedState E) (p : Page)
 module _ {E : Type 0} (k : Ghosts E) where
   -- what a change of the sheet's table is to its page
   on-page : (w w′ h h′ rows rows′ n n′ : ℕ) (change : Levels → Levels) (p : Levels) (before after : List E) → w ≡ w′ → h ≡ h′ → rows ≡ rows′ → n ≡ n′ →
-    Renewed k w h rows n change before after → Holds k w′ h′ rows′ p before → Holds k w′ h′ n′ (change p) after
+      Renewed k w h rows n change before after → Holds k w′ h′ rows′ p before → Holds k w′ h′ n′ (change p) after
   unfolding Renewed
   on-page w w′ h h′ rows rows′ n n′ change p before after ew eh er en d was =
       let old : Holds k w h rows p before = moved (λ a b. Holds k a b rows p before) w′ w h′ h (sym ew) (sym eh) (subst (λ m. Holds k w′ h′ m p before) (sym er) was) in
@@ -64,15 +64,15 @@ module _ {E : Type 0} (k : Ghosts E) where
       height-is = d .height-is ∙ was .height-is;
       rows-is = d .fed-is ∙ ap (λ m. m + 1) (was .rows-is);
       table =
-        let at : Renewed k (s .width) (s .height) (s .fed) (s .fed + 1) (withRow (p .rows) row) (s .memory) (t .memory) =
-            subst (λ n. Renewed k (s .width) (s .height) (s .fed) (s .fed + 1) (withRow n row) (s .memory) (t .memory)) (was .rows-is) (d .table) in
-        on-page (s .width) (p .width) (s .height) (p .height) (s .fed) (p .rows) (s .fed + 1) (p .rows + 1) (withRow (p .rows) row) (p .level) (s .memory) (t .memory) (was .width-is) (was .height-is) (was .rows-is) (ap (λ m. m + 1) (was .rows-is)) at (was .table);
+          let at : Renewed k (s .width) (s .height) (s .fed) (s .fed + 1) (withRow (p .rows) row) (s .memory) (t .memory) =
+          subst (λ n. Renewed k (s .width) (s .height) (s .fed) (s .fed + 1) (withRow n row) (s .memory) (t .memory)) (was .rows-is) (d .table) in
+          on-page (s .width) (p .width) (s .height) (p .height) (s .fed) (p .rows) (s .fed + 1) (p .rows + 1) (withRow (p .rows) row) (p .level) (s .memory) (t .memory) (was .width-is) (was .height-is) (was .rows-is) (ap (λ m. m + 1) (was .rows-is)) at (was .table);
     }
 
     fed-like : (r : Result ℕ Refusal) → Fed k s row r t → GrowingLike k t (feed row p)
     fed-like r f =
         let is : told r ≡ feedAnswer (p .width) (p .height) (p .rows) row =
-            f .answer ∙ ap (λ w. feedAnswer w (s .height) (s .fed) row) (was .width-is) ∙ ap (λ h. feedAnswer (p .width) h (s .fed) row) (was .height-is) ∙ ap (λ n. feedAnswer (p .width) (p .height) n row) (was .rows-is) in
+        f .answer ∙ ap (λ w. feedAnswer w (s .height) (s .fed) row) (was .width-is) ∙ ap (λ h. feedAnswer (p .width) h (s .fed) row) (was .height-is) ∙ ap (λ n. feedAnswer (p .width) (p .height) n row) (was .rows-is) in
         subst (λ a. GrowingLike k t (ifAccepted a longer p)) is (fed-case r (f .effect))
 
   grown : {s : GrowingState E} {p : Page} → GrowingRun k s p → GrowingLike k s p
@@ -94,9 +94,9 @@ module _ {E : Type 0} (k : Ghosts E) where
     edits-is = d .edits-is;
     laid-is = d .laid-is;
     table =
-      let at : Renewed k (s .width) (s .height) (s .fed) (s .height) (withRest (p .rows) level) (s .memory) (t .memory) =
-          subst (λ n. Renewed k (s .width) (s .height) (s .fed) (s .height) (withRest n level) (s .memory) (t .memory)) (was .rows-is) (d .table) in
-      on-page (s .width) (p .width) (s .height) (p .height) (s .fed) (p .rows) (s .height) (p .height) (withRest (p .rows) level) (p .level) (s .memory) (t .memory) (was .width-is) (was .height-is) (was .rows-is) (was .height-is) at (was .table);
+        let at : Renewed k (s .width) (s .height) (s .fed) (s .height) (withRest (p .rows) level) (s .memory) (t .memory) =
+        subst (λ n. Renewed k (s .width) (s .height) (s .fed) (s .height) (withRest n level) (s .memory) (t .memory)) (was .rows-is) (d .table) in
+        on-page (s .width) (p .width) (s .height) (p .height) (s .fed) (p .rows) (s .height) (p .height) (withRest (p .rows) level) (p .level) (s .memory) (t .memory) (was .width-is) (was .height-is) (was .rows-is) (was .height-is) at (was .table);
   }
 
   module _ (s t : FinishedState E) (p : Page) (rect : Rectangle) (f : ℕ → ℕ) (was : FinishedLike k s p) where
@@ -135,11 +135,11 @@ module _ {E : Type 0} {k : Ghosts E} (laws : Group k) (s : FinishedState E) (p :
       let on = on-parts (p .width) (p .height) r is in
       let e : ℕ → ℕ → E = λ x y. k .lifted (p .level x y) in
       let has : (x y : ℕ) → x ≤ p .width → y ≤ p .height → cell k (s .width + 1) (s .memory) x y ≡ cornerSum k e x y =
-          λ x y hx hy. ap (λ w. cell k (w + 1) (s .memory) x y) (same .width-is) ∙ same .table (omega arith) .entry x y hx hy in
+      λ x y hx hy. ap (λ w. cell k (w + 1) (s .memory) x y) (same .width-is) ∙ same .table (omega arith) .entry x y hx hy in
       let right : r .right + 1 ≡ r .left + columns r = omega arith in
       let bottom : r .bottom + 1 ≡ r .top + lines r = omega arith in
       let c1 : cell k (s .width + 1) (s .memory) (r .right + 1) (r .bottom + 1) ≡ cornerSum k e (r .left + columns r) (r .top + lines r) =
-          has (r .right + 1) (r .bottom + 1) (omega arith) (omega arith) ∙ ap (λ x. cornerSum k e x (r .bottom + 1)) right ∙ ap (cornerSum k e (r .left + columns r)) bottom in
+      has (r .right + 1) (r .bottom + 1) (omega arith) (omega arith) ∙ ap (λ x. cornerSum k e x (r .bottom + 1)) right ∙ ap (cornerSum k e (r .left + columns r)) bottom in
       let c2 : cell k (s .width + 1) (s .memory) (r .left) (r .bottom + 1) ≡ cornerSum k e (r .left) (r .top + lines r) = has (r .left) (r .bottom + 1) (omega arith) (omega arith) ∙ ap (cornerSum k e (r .left)) bottom in
       let c3 : cell k (s .width + 1) (s .memory) (r .right + 1) (r .top) ≡ cornerSum k e (r .left + columns r) (r .top) = has (r .right + 1) (r .top) (omega arith) (omega arith) ∙ ap (λ x. cornerSum k e x (r .top)) right in
       let c4 = has (r .left) (r .top) (omega arith) (omega arith) in
@@ -158,14 +158,14 @@ module _ {E : Type 0} {k : Ghosts E} (laws : Group k) (s : FinishedState E) (p :
 pub runs-agree : {E : Type 0} {k : Ghosts E} → Group k → RunsAgree k
 runs-agree {E} {k} laws = record {
   agree = λ s p run.
-    let same = stood k run in
-    record {
-      width-is = same .width-is;
-      height-is = same .height-is;
-      edits-is = same .edits-is;
-      laid-is = same .laid-is;
-      table = same .table;
-      sums = sums-read laws s p same;
-      answers = sums-answered laws s p same;
-    };
+      let same = stood k run in
+      record {
+        width-is = same .width-is;
+        height-is = same .height-is;
+        edits-is = same .edits-is;
+        laid-is = same .laid-is;
+        table = same .table;
+        sums = sums-read laws s p same;
+        answers = sums-answered laws s p same;
+      };
 }

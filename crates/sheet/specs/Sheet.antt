@@ -1,7 +1,7 @@
 -- What each call of a sheet does, between the state before it and the state after it. Assumes nothing.
 use mathlib.Core.Path.{_≡_}
 use mathlib.Core.List.{List}
-use mathlib.Core.Bool.{Bool, true, false, cond}
+use mathlib.Core.Bool.{cond}
 use Prim.Native.Nat.{ℕ, _+_, _-_, _*_, _≤_, _<_}
 use lib.Dec.{eqb}
 use lib.ListN.{length, drop, getD}
@@ -18,7 +18,7 @@ use Rattle.sheet.specs.declared.rows.Sign.the-variants.{Plus, Minus}
 use Rattle.sheet.specs.declared.state.Finished.{Finished}
 use Rattle.sheet.specs.declared.state.Growing.{Growing}
 use Rattle.sheet.specs.Fill.{levelAt}
-use Rattle.sheet.specs.Page.{Page, Levels, begin, capped, feedAnswer, withRow, withRest, area, columns, overlaid, onSheet, wipeAnswer, patchAnswer}
+use Rattle.sheet.specs.Page.{Levels, begin, capped, feedAnswer, withRow, withRest, area, columns, overlaid, onSheet, wipeAnswer, patchAnswer}
 use Rattle.sheet.specs.Table.{cell, less, Added, Rewritten, TableOf}
 
 -- what a growing sheet holds

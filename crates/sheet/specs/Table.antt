@@ -61,10 +61,10 @@ module _ {E : Type 0} (k : Ghosts E) where
     pub long : length after ≡ length before
     -- in those columns, the row above joined with the sum of the new page row
     pub inside : (i j : ℕ) → i < stride → left < i → i ≤ right → top ≤ j → j < bottom →
-      cell stride after i (j + 1) ≡ k .joined (cell stride after i j) (prefixFrom (less (cell stride before left (j + 1)) (cell stride before left j)) (λ n. f (left + n) j) (i - left))
+        cell stride after i (j + 1) ≡ k .joined (cell stride after i j) (prefixFrom (less (cell stride before left (j + 1)) (cell stride before left j)) (λ n. f (left + n) j) (i - left))
     -- right of them, shifted as the last of them is
     pub beyond : (i j : ℕ) → i < stride → right < i → top ≤ j → j < bottom →
-      cell stride after i (j + 1) ≡ k .joined (cell stride before i (j + 1)) (less (cell stride after right (j + 1)) (cell stride before right (j + 1)))
+        cell stride after i (j + 1) ≡ k .joined (cell stride before i (j + 1)) (less (cell stride after right (j + 1)) (cell stride before right (j + 1)))
     pub others : (i j : ℕ) → i < stride → (i ≤ left) ⊎ ((j ≤ top) ⊎ (bottom < j)) → cell stride after i j ≡ cell stride before i j
 
   -- The table of the entries e, of a sheet of this width and height with `rows` rows laid: each table row up to `rows` has the joinings of what lies before and above, and the others have the identity.

@@ -16,7 +16,13 @@ impl<'a, E: Entry> Finished<'a, E> {
         ensures memory { λ _. ⌜ name (now (self .exit) .table) ≡ name (now (self .entry) .table) ⌝ }
         ensures patched { λ r. ⌜ Patched E·Entry (finished (now (self .entry))) rect (now (levels .entry)) r (finished (now (self .exit))) ⌝ }
     {
-        let Finished { table, width, height, edits, laid } = self;
+        let Finished {
+            table,
+            width,
+            height,
+            edits,
+            laid,
+        } = self;
         if !rect.is_on(*width, *height) {
             return Err(Refusal::OffSheet);
         }
@@ -35,7 +41,13 @@ impl<'a, E: Entry> Finished<'a, E> {
         ensures memory { λ _. ⌜ name (now (self .exit) .table) ≡ name (now (self .entry) .table) ⌝ }
         ensures wiped { λ r. ⌜ Wiped E·Entry (finished (now (self .entry))) rect level r (finished (now (self .exit))) ⌝ }
     {
-        let Finished { table, width, height, edits, laid } = self;
+        let Finished {
+            table,
+            width,
+            height,
+            edits,
+            laid,
+        } = self;
         if !rect.is_on(*width, *height) {
             return Err(Refusal::OffSheet);
         }
@@ -52,7 +64,13 @@ impl<'a, E: Entry> Finished<'a, E> {
         ensures answer { λ r. ⌜ r ≡ filed (finished (self .entry)) ⌝ }
         ensures memory { λ _. ⌜ now (self .exit .0) ≡ now (self .entry .table) ⌝ }
     {
-        let Finished { table: _, width: _, height: _, edits, laid } = self;
+        let Finished {
+            table: _,
+            width: _,
+            height: _,
+            edits,
+            laid,
+        } = self;
         (edits, laid)
     }
 }

@@ -40,10 +40,20 @@ pub fn begin<'a, E: Entry>(memory: &'a mut [E], width: usize, height: usize) -> 
     ensures { λ r. ⌜ Begun E·Entry (now (memory .entry)) width height (growing r) ⌝ }
 {
     if fits(width, height, memory.len()).is_err() {
-        return Growing { table: memory, width: 0, height: 0, fed: 0 };
+        return Growing {
+            table: memory,
+            width: 0,
+            height: 0,
+            fed: 0,
+        };
     }
     lay_blank(memory, width, height);
-    Growing { table: memory, width, height, fed: 0 }
+    Growing {
+        table: memory,
+        width,
+        height,
+        fed: 0,
+    }
 }
 
 impl<'a, E: Entry> Growing<'a, E> {
@@ -52,7 +62,12 @@ impl<'a, E: Entry> Growing<'a, E> {
         ensures fed { λ r. ⌜ Fed E·Entry (growing (now (self .entry))) (now (row .entry)) r (growing (now (self .exit))) ⌝ }
         ensures memory { λ _. ⌜ name (now (self .exit) .table) ≡ name (now (self .entry) .table) ⌝ }
     {
-        let Growing { table, width, height, fed } = self;
+        let Growing {
+            table,
+            width,
+            height,
+            fed,
+        } = self;
         if row.len() != *width {
             return Err(Refusal::RowLength);
         }
@@ -69,8 +84,19 @@ impl<'a, E: Entry> Growing<'a, E> {
     pub fn finish(self, level: u8) -> Finished<'a, E>
         ensures { λ r. ⌜ Ended E·Entry (growing (self .entry)) level (finished r) ⌝ }
     {
-        let Growing { table, width, height, fed } = self;
+        let Growing {
+            table,
+            width,
+            height,
+            fed,
+        } = self;
         lay_rest(table, width, height, fed, level);
-        Finished { table, width, height, edits: 0, laid: 0 }
+        Finished {
+            table,
+            width,
+            height,
+            edits: 0,
+            laid: 0,
+        }
     }
 }

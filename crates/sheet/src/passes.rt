@@ -26,7 +26,13 @@ pub(crate) fn clear<E: Entry>(table: &mut [E], n: usize)
 }
 
 // Lays the page rows from `top` on and above `bottom` at one level.
-pub(crate) fn lay_levels<E: Entry>(table: &mut [E], stride: usize, top: usize, bottom: usize, level: u8)
+pub(crate) fn lay_levels<E: Entry>(
+    table: &mut [E],
+    stride: usize,
+    top: usize,
+    bottom: usize,
+    level: u8,
+)
     requires { ⌜ (0 < bottom → stride * (bottom + 1) ≤ length (now table)) ⌝ ∗ ⌜ top ≤ bottom ⌝ }
     ensures { λ _. ⌜ Summed E·Entry stride (now (table .entry)) top bottom (λ i j. prefix E·Entry (λ x. lifted level) i) (now (table .exit)) ⌝ }
 {
@@ -36,7 +42,15 @@ pub(crate) fn lay_levels<E: Entry>(table: &mut [E], stride: usize, top: usize, b
 }
 
 // Joins row `base` or its inverse to each table row from `top` on and above `bottom`, from column `left` on.
-pub(crate) fn add_rows<E: Entry>(table: &mut [E], stride: usize, left: usize, top: usize, bottom: usize, base: usize, sign: Sign)
+pub(crate) fn add_rows<E: Entry>(
+    table: &mut [E],
+    stride: usize,
+    left: usize,
+    top: usize,
+    bottom: usize,
+    base: usize,
+    sign: Sign,
+)
     requires room { ⌜ stride * bottom ≤ length (now table) ⌝ ∗ ⌜ left ≤ stride ⌝ }
     requires order { ⌜ base < top ⌝ ∗ ⌜ top ≤ bottom ⌝ }
     ensures { λ _. ⌜ Added E·Entry stride (now (table .entry)) left top bottom base sign (now (table .exit)) ⌝ }
@@ -47,7 +61,13 @@ pub(crate) fn add_rows<E: Entry>(table: &mut [E], stride: usize, left: usize, to
 }
 
 // Lays the levels into the table rows of the rectangle.
-pub(crate) fn rewrite_rows<E: Entry>(table: &mut [E], width: usize, height: usize, rect: Rectangle, fill: Fill<'_>)
+pub(crate) fn rewrite_rows<E: Entry>(
+    table: &mut [E],
+    width: usize,
+    height: usize,
+    rect: Rectangle,
+    fill: Fill<'_>,
+)
     requires on { ⌜ OnTable width height rect (length (now table)) ⌝ }
     requires reaches { ⌜ ((n : ℕ) → n < area rect → Reaches fill n) ⌝ }
     ensures { λ _. ⌜ Laid E·Entry width rect (fill .entry) (now (table .entry)) (now (table .exit)) ⌝ }

@@ -17,8 +17,7 @@ use refusal::Refusal;
 // The law over all runs; no code runs.
 fn run_law<E: Entry>()
     ensures { λ _. ⌜ RunsAgree E·Entry ⌝ }
-{
-}
+{}
 
 impl<'a, E: Entry> Table<'a, E> {
     // Looks at lent memory as the table of a sheet of this size.
@@ -26,7 +25,11 @@ impl<'a, E: Entry> Table<'a, E> {
         ensures { λ r. ⌜ Viewed (now (entries .entry)) width height r ⌝ }
     {
         fits(width, height, entries.len())?;
-        Ok(Table { entries, width, height })
+        Ok(Table {
+            entries,
+            width,
+            height,
+        })
     }
 
     // The entry at column `x` of table row `y`.
@@ -59,7 +62,11 @@ impl<'a, E: Entry> Finished<'a, E> {
     pub fn table(&self) -> Table<'_, E>
         ensures { λ r. ⌜ now (r .entries) ≡ now (now (self .entry) .table) ⌝ ∗ ⌜ r .width ≡ now (self .entry) .width ⌝ ∗ ⌜ r .height ≡ now (self .entry) .height ⌝ }
     {
-        Table { entries: self.table, width: self.width, height: self.height }
+        Table {
+            entries: self.table,
+            width: self.width,
+            height: self.height,
+        }
     }
 
     // The entry of a rectangle, from the four corners of the table.

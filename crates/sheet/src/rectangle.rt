@@ -18,7 +18,10 @@ impl Rectangle {
     pub(crate) fn is_on(self, width: usize, height: usize) -> bool
         ensures { λ r. ⌜ r ≡ onSheet width height self ⌝ }
     {
-        self.left <= self.right && self.top <= self.bottom && self.right < width && self.bottom < height
+        self.left <= self.right
+            && self.top <= self.bottom
+            && self.right < width
+            && self.bottom < height
     }
 
     // How many pixels it has.

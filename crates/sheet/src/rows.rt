@@ -61,7 +61,14 @@ pub(crate) fn lay_level<E: Entry>(table: &mut [E], stride: usize, y: usize, leve
 }
 
 // Joins row `base` or its inverse to row `y`, from column `left` on.
-pub(crate) fn add_row<E: Entry>(table: &mut [E], stride: usize, left: usize, y: usize, base: usize, sign: Sign)
+pub(crate) fn add_row<E: Entry>(
+    table: &mut [E],
+    stride: usize,
+    left: usize,
+    y: usize,
+    base: usize,
+    sign: Sign,
+)
     requires { ⌜ stride * (y + 1) ≤ length (now table) ⌝ ∗ ⌜ base < y ⌝ ∗ ⌜ left ≤ stride ⌝ }
     ensures { λ _. ⌜ Filled E·Entry stride (now (table .entry)) y left stride (λ i. joined (cell E·Entry stride (now (table .entry)) i y) (signed E·Entry sign (cell E·Entry stride (now (table .entry)) i base))) (now (table .exit)) ⌝ }
 {
@@ -84,7 +91,15 @@ fn shift_row<E: Entry>(table: &mut [E], stride: usize, left: usize, y: usize, ch
 }
 
 // Lays `count` levels from number `first` on into the columns right of `left`, in table row `y + 1`.
-fn rewrite_columns<E: Entry>(table: &mut [E], stride: usize, y: usize, left: usize, count: usize, fill: Fill<'_>, first: usize)
+fn rewrite_columns<E: Entry>(
+    table: &mut [E],
+    stride: usize,
+    y: usize,
+    left: usize,
+    count: usize,
+    fill: Fill<'_>,
+    first: usize,
+)
     requires room { ⌜ stride * (y + 2) ≤ length (now table) ⌝ ∗ ⌜ left + count < stride ⌝ ∗ ⌜ first + count < 2 ^ 64 ⌝ }
     requires reaches { ⌜ ((n : ℕ) → n < count → Reaches fill (first + n)) ⌝ }
     ensures { λ _. ⌜ Filled E·Entry stride (now (table .entry)) (y + 1) (left + 1) (left + 1 + count) (λ i. joined (cell E·Entry stride (now (table .entry)) i y) (prefixFrom E·Entry (less E·Entry (cell E·Entry stride (now (table .entry)) left (y + 1)) (cell E·Entry stride (now (table .entry)) left y)) (λ n. lifted (levelAt (fill .entry) (first + n))) (i - left))) (now (table .exit)) ⌝ }
@@ -99,7 +114,14 @@ fn rewrite_columns<E: Entry>(table: &mut [E], stride: usize, y: usize, left: usi
 }
 
 // Lays the levels from number `first` on into page row `y`, in the columns of the rectangle, and shifts what stands right of them.
-pub(crate) fn rewrite_row<E: Entry>(table: &mut [E], stride: usize, y: usize, rect: Rectangle, fill: Fill<'_>, first: usize)
+pub(crate) fn rewrite_row<E: Entry>(
+    table: &mut [E],
+    stride: usize,
+    y: usize,
+    rect: Rectangle,
+    fill: Fill<'_>,
+    first: usize,
+)
     requires room { ⌜ stride * (y + 2) ≤ length (now table) ⌝ ∗ ⌜ rect .left ≤ rect .right ⌝ ∗ ⌜ rect .right + 1 < stride ⌝ ∗ ⌜ first + (rect .right + 1) < 2 ^ 64 ⌝ }
     requires reaches { ⌜ ((n : ℕ) → n < columns rect → Reaches fill (first + n)) ⌝ }
     ensures { λ _. ⌜ Rewritten E·Entry stride (now (table .entry)) (rect .left) (rect .right + 1) y (y + 1) (λ i j. lifted (levelAt (fill .entry) (first + (i - rect .left)))) (now (table .exit)) ⌝ }

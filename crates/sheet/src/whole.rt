@@ -44,17 +44,30 @@ fn carry<E: Entry>(table: &mut [E], width: usize, height: usize, rect: Rectangle
     requires { ⌜ OnTable width height rect (length (now table)) ⌝ }
     ensures { λ _. ⌜ Carried E·Entry width height rect sign (now (table .entry)) (now (table .exit)) ⌝ }
 {
-    add_rows(table, width + 1, rect.left + 1, rect.bottom + 2, height + 1, rect.bottom + 1, sign);
+    add_rows(
+        table,
+        width + 1,
+        rect.left + 1,
+        rect.bottom + 2,
+        height + 1,
+        rect.bottom + 1,
+        sign,
+    );
 }
 
 // What the three steps of `rewrite` come to; no code runs.
 fn edit_law<E: Entry>()
     ensures { λ _. ⌜ EditLaw E·Entry ⌝ }
-{
-}
+{}
 
 // Lays levels over a rectangle, and so renews every entry right of its left side and below its top.
-pub(crate) fn rewrite<E: Entry>(table: &mut [E], width: usize, height: usize, rect: Rectangle, fill: Fill<'_>)
+pub(crate) fn rewrite<E: Entry>(
+    table: &mut [E],
+    width: usize,
+    height: usize,
+    rect: Rectangle,
+    fill: Fill<'_>,
+)
     requires on { ⌜ OnTable width height rect (length (now table)) ⌝ }
     requires reaches { ⌜ ((n : ℕ) → n < area rect → Reaches fill n) ⌝ }
     ensures { λ _. ⌜ Renewed E·Entry width height height height (overlaid rect (levelAt (fill .entry))) (now (table .entry)) (now (table .exit)) ⌝ }

@@ -1,14 +1,10 @@
-use mathlib.Core.Path.{_≡_, refl, _∙_, subst}
-use Prim.Native.Nat.{_<_, _+_}
+use mathlib.Core.Path.{_≡_, _∙_}
+use Prim.Native.Nat.{_<_}
 use native.Mathlib.Omega.{arith}
 use borrow.Author.Count.{below-more}
 use lib.ListN.{length, length-set, getD, set}
 use lib.Seq.{getD-set-same, getD-set-other}
-use Rattle.sheet.specs.Table.{Cleared}
 use Rattle.sheet.proofs.passes.clear.Needs as need
-
-pub loop-i-holds : need.loop-i-holds
-loop-i-holds g c = record { long = refl; here = λ i h. absurd (omega arith); others = λ i h. refl }
 
 pub loop-i-again : need.loop-i-again
 loop-i-again g c =
@@ -23,8 +19,3 @@ loop-i-again g c =
       here = below-more (λ m. getD (set t i v) m d ≡ d) i (λ m h. getD-set-other t i m v d (λ e. omega arith) ∙ inv .here m h) (getD-set-same t i v d lt ∙ c .zero .ensures);
       others = λ m h. getD-set-other t i m v d (λ e. omega arith) ∙ inv .others m (omega arith);
     }
-
-pub returns : need.returns
-returns g c =
-    let all : c .loop-i .i ≡ c .args .n = omega arith in
-    subst (λ n. Cleared (g .E·Entry) (c .args .table .now) n (c .loop-i .table)) all (c .loop-i .inv)

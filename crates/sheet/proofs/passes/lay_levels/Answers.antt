@@ -1,15 +1,10 @@
-use mathlib.Core.Path.{_≡_, refl, subst}
+use mathlib.Core.Path.{refl}
 use Prim.Native.Nat.{_+_, _<_}
 use native.Mathlib.Omega.{arith}
 use lib.ListN.{length}
-use Rattle.entry.specs.Sums.{prefix}
-use Rattle.sheet.specs.Table.{Summed}
 use Rattle.sheet.proofs.Places.{room}
-use Rattle.sheet.proofs.RowSteps.{summed-none, summed-more}
+use Rattle.sheet.proofs.RowSteps.{summed-more}
 use Rattle.sheet.proofs.passes.lay_levels.Needs as need
-
-pub loop-y-holds : need.loop-y-holds
-loop-y-holds g c = summed-none (g .E·Entry) (c .args .stride) (c .args .table .now) (c .args .top) _
 
 pub lay-level-requires : need.lay-level-requires
 lay-level-requires g c κs =
@@ -19,9 +14,3 @@ lay-level-requires g c κs =
 
 pub loop-y-again : need.loop-y-again
 loop-y-again g c = summed-more (g .E·Entry) (c .args .stride) (c .args .table .now) (c .args .top) (c .loop-y .y) _ _ _ _ (omega arith) (c .loop-y .inv) (c .lay-level .ensures) (λ i hi. refl)
-
-pub returns : need.returns
-returns g c =
-    let k = g .E·Entry in
-    let e : c .loop-y .y ≡ c .args .bottom = omega arith in
-    subst (λ n. Summed k (c .args .stride) (c .args .table .now) (c .args .top) n (λ i j. prefix k (λ x. k .lifted (c .args .level)) i) (c .loop-y .table)) e (c .loop-y .inv)

@@ -1,30 +1,18 @@
-use mathlib.Core.Path.{_≡_, refl, subst}
-use Prim.Native.Nat.{ℕ, _+_, _-_, _*_, _≤_, _<_}
+use mathlib.Core.Path.{refl}
+use Prim.Native.Nat.{_+_, _-_, _*_}
 use native.Mathlib.Nat.{mul-comm}
 use native.Mathlib.Omega.{arith}
 use lib.ListN.{length}
 use Rattle.std.proofs.shelf.Bits.{mul-add-lt, mul-le}
-use Rattle.sheet.specs.Fill.{levelAt}
 use Rattle.sheet.specs.Page.{columns, lines}
-use Rattle.sheet.specs.Table.{Rewritten}
 use Rattle.sheet.proofs.Places.{room}
-use Rattle.sheet.proofs.RowSteps.{rewritten-none, rewritten-more}
+use Rattle.sheet.proofs.RowSteps.{rewritten-more}
 use Rattle.sheet.proofs.passes.rewrite_rows.Needs as need
-
-pub loop-y-holds : need.loop-y-holds
-loop-y-holds g c = rewritten-none (g .E·Entry) (c .args .width + 1) (c .args .table .now) (c .args .rect .left) (c .args .rect .right + 1) (c .args .rect .top) _
 
 pub loop-y-again : need.loop-y-again
 loop-y-again g c =
     let r = c .args .rect in
     rewritten-more (g .E·Entry) (c .args .width + 1) (c .args .table .now) (r .left) (r .right + 1) (r .top) (c .loop-y .y) _ _ _ _ (omega arith) (omega arith) (omega arith) (c .loop-y .inv) (c .rewrite-row .ensures) (λ n. refl)
-
-pub returns : need.returns
-returns g c =
-    let k = g .E·Entry in
-    let r = c .args .rect in
-    let e : c .loop-y .y ≡ r .bottom + 1 = omega arith in
-    record { rows = subst (λ n. Rewritten k (c .args .width + 1) (c .args .table .now) (r .left) (r .right + 1) (r .top) n (λ i j. k .lifted (levelAt (c .args .fill) ((j - r .top) * columns r + (i - r .left)))) (c .loop-y .table)) e (c .loop-y .inv) }
 
 pub rewrite-row-requires : need.rewrite-row-requires
 rewrite-row-requires g c κs =

@@ -5,11 +5,8 @@ use Rattle.sheet.specs.Table.{cell, signed}
 use Prim.Native.Nat.{_+_}
 use lib.ListN.{length}
 use Rattle.sheet.proofs.Places.{inside}
-use Rattle.sheet.proofs.Fills.{filled-none, filled-more, filled-to}
+use Rattle.sheet.proofs.Fills.{filled-more}
 use Rattle.sheet.proofs.rows.add_row.Needs as need
-
-pub loop-x-holds : need.loop-x-holds
-loop-x-holds g c = filled-none (g .E·Entry) (c .args .stride) (c .args .table .now) (c .args .y) (c .args .left) _
 
 pub loop-x-again : need.loop-x-again
 loop-x-again g c =
@@ -23,9 +20,6 @@ loop-x-again g c =
     let above = inv .others x (c .args .base) (c .loop-x-test .taken) (inr (inr (λ e. omega arith))) in
     let is : c .join .result ≡ k .joined (cell k s t x y) (signed k (c .args .sign) (cell k s t x (c .args .base))) = cc in
     filled-more k s t y (c .args .left) _ x _ _ _ (c .loop-x-test .taken) (omega arith) inv (c .write .ensures) is
-
-pub returns : need.returns
-returns g c = filled-to (g .E·Entry) (c .args .stride) (c .args .table .now) (c .args .y) (c .args .left) _ (c .loop-x .x) _ _ (omega arith) (c .loop-x .inv)
 
 pub read-above-requires : need.read-above-requires
 read-above-requires g c κs =

@@ -1,4 +1,3 @@
-use Prim.Native.Nat.{_≤_}
 use Rattle.sheet.specs.Table.{cell, signed, Filled}
 use Rattle.sheet.proofs.rows.add_row.Given as given
 

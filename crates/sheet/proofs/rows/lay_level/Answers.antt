@@ -1,15 +1,12 @@
 use mathlib.Core.Path.{_≡_, _∙_}
-use mathlib.Core.Logic.{inl, inr}
+use mathlib.Core.Logic.{inr}
 use Prim.Native.Nat.{_+_}
 use native.Mathlib.Omega.{arith}
 use Rattle.entry.specs.Sums.{prefix}
 use Rattle.sheet.specs.Table.{cell}
-use Rattle.sheet.proofs.Fills.{filled-none, filled-more, filled-to}
+use Rattle.sheet.proofs.Fills.{filled-more}
 use Rattle.sheet.proofs.Prefixes.{prefix-more}
 use Rattle.sheet.proofs.rows.lay_level.Needs as need
-
-pub loop-x-holds : need.loop-x-holds
-loop-x-holds g c = (c .zero-sum .ensures, filled-none (g .E·Entry) (c .args .stride) (c .args .table .now) (c .args .y + 1) 0 _)
 
 pub loop-x-again : need.loop-x-again
 loop-x-again g c =
@@ -24,6 +21,3 @@ loop-x-again g c =
     let is : c .join .result ≡ k .joined (cell k s t x y) (sums x) = cc in
     let sum : c .join-sum .result ≡ k .joined (sums x) (k .lifted (c .args .level)) = cc in
     (sum ∙ prefix-more k (λ i. k .lifted (c .args .level)) x, filled-more k s t (y + 1) 0 _ x _ _ _ (c .loop-x-test .taken) (omega arith) (inv .1) (c .write .ensures) is)
-
-pub returns : need.returns
-returns g c = filled-to (g .E·Entry) (c .args .stride) (c .args .table .now) (c .args .y + 1) 0 _ (c .loop-x .x) _ _ (omega arith) (c .loop-x .inv .1)

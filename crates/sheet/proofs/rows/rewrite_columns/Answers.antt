@@ -1,5 +1,5 @@
 use mathlib.Core.Path.{_≡_, _∙_, ap}
-use mathlib.Core.Logic.{inl, inr}
+use mathlib.Core.Logic.{inr}
 use Prim.Native.Nat.{ℕ, _+_, _-_, _<_}
 use native.Mathlib.Omega.{arith}
 use Rattle.sheet.specs.Fill.{levelAt}

@@ -1,5 +1,5 @@
 use mathlib.Core.Path.{_≡_}
-use Prim.Native.Nat.{ℕ, _+_, _-_}
+use Prim.Native.Nat.{_+_, _-_}
 use Rattle.sheet.specs.Fill.{levelAt}
 use Rattle.sheet.specs.Table.{cell, less, prefixFrom, Filled}
 use Rattle.sheet.proofs.rows.rewrite_columns.Given as given

@@ -1,4 +1,4 @@
-use mathlib.Core.Path.{_≡_, sym, ap, _∙_}
+use mathlib.Core.Path.{_≡_, ap}
 use Prim.Native.Nat.{ℕ, _+_, _-_}
 use native.Mathlib.Omega.{arith}
 use Rattle.sheet.specs.Fill.{levelAt}
@@ -14,5 +14,5 @@ returns g c =
     let r = c .args .rect in
     let change : c .join .result ≡ less k (cell k s (c .rewrite-columns .last .table) (r .right + 1) (y + 1)) (cell k s (c .args .table .now) (r .right + 1) (y + 1)) = cc in
     row-rewritten k s y (r .left) (r .right + 1) (c .args .table .now) (c .rewrite-columns .last .table) (c .shift-row .last .table) _ _ _ (omega arith) (omega arith)
-      (c .rewrite-columns .ensures) change (c .shift-row .ensures)
-      (λ n. let e : n ≡ r .left + n - r .left = omega arith in ap (λ (m : ℕ). k .lifted (levelAt (c .args .fill) (c .args .first + m))) e)
+    (c .rewrite-columns .ensures) change (c .shift-row .ensures)
+    (λ n. let e : n ≡ r .left + n - r .left = omega arith in ap (λ (m : ℕ). k .lifted (levelAt (c .args .fill) (c .args .first + m))) e)
