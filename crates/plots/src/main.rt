@@ -1,6 +1,7 @@
 // `plots` reads a scan file from standard input, and prints the sides of the sheet or why the scan is refused.
 mod input;
 mod outcome;
+mod survey;
 #[cfg(test)]
 mod tests;
 
@@ -15,6 +16,6 @@ const MAX_INPUT: usize = 16_384;
 fn main(rt: LibcRuntime) -> io::Result<()> {
     let mut buffer = [0; MAX_INPUT];
     let length = fill(&mut rt.stdin(), &mut buffer)?;
-    let outcome = outcome_of(&buffer[0..length]);
+    let outcome = outcome_of(rt.alloc(), &buffer[0..length])?;
     println!(rt, "{outcome}")
 }

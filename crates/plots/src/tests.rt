@@ -7,14 +7,17 @@ use super::outcome::outcome_of;
 use std::test::*;
 
 const GOOD: [(&[u8], &str); 8] = [
-    (b"P5\n2 1\n255\nab", "sheet 2 1"),
-    (b"P5 00002 00001 00255 ab", "sheet 2 1"),
-    (b"P5\t2\x0b1\x0c255\rab", "sheet 2 1"),
-    (b"P5 # one\n2 # two\n1 # three\n255 ab", "sheet 2 1"),
-    (b"P5 # one\n# two\n\n#\n2 1 255 ab", "sheet 2 1"),
-    (b"P5 2 1 255 #b", "sheet 2 1"),
-    (b"P5 2 1 255 \n\n", "sheet 2 1"),
-    (b"P5 2 1 255 ab, and more", "sheet 2 1"),
+    (b"P5\n2 1\n255\nab", "sheet 2 1\ntotal 195"),
+    (b"P5 00002 00001 00255 ab", "sheet 2 1\ntotal 195"),
+    (b"P5\t2\x0b1\x0c255\rab", "sheet 2 1\ntotal 195"),
+    (
+        b"P5 # one\n2 # two\n1 # three\n255 ab",
+        "sheet 2 1\ntotal 195",
+    ),
+    (b"P5 # one\n# two\n\n#\n2 1 255 ab", "sheet 2 1\ntotal 195"),
+    (b"P5 2 1 255 #b", "sheet 2 1\ntotal 133"),
+    (b"P5 2 1 255 \n\n", "sheet 2 1\ntotal 20"),
+    (b"P5 2 1 255 ab, and more", "sheet 2 1\ntotal 195"),
 ];
 
 const DAMAGED: [(&[u8], &str); 24] = [
@@ -45,7 +48,7 @@ const DAMAGED: [(&[u8], &str); 24] = [
 ];
 
 fn prints(rt: &LibcRuntime, file: &[u8], line: &str) -> Result<(), Fail> {
-    let outcome = outcome_of(file);
+    let outcome = outcome_of(rt.alloc(), file)?;
     let text = format!(rt.alloc(), "{outcome}")?;
     check_eq(text.as_str(), line)
 }
@@ -88,10 +91,10 @@ fn longest_input(rt: LibcRuntime) -> Result<(), Fail> {
     // 127 by 128 levels, with 128 bytes before them, are 16,384 bytes
     let fits = long_file(128);
     prints_of_input(&rt, &fits[0..16_383], "refused 5 16383 reader")?;
-    prints_of_input(&rt, &fits[0..16_384], "sheet 127 128")?;
-    prints_of_input(&rt, &fits, "sheet 127 128")?;
+    prints_of_input(&rt, &fits[0..16_384], "sheet 127 128\ntotal 1950720")?;
+    prints_of_input(&rt, &fits, "sheet 127 128\ntotal 1950720")?;
     // the last level of this file is not read
     let over = long_file(129);
     prints_of_input(&rt, &over, "refused 5 16384 reader")?;
-    prints(&rt, &over, "sheet 127 128")
+    prints(&rt, &over, "sheet 127 128\ntotal 1950720")
 }

@@ -1,7 +1,8 @@
 // A finished sheet: edits and filing.
 ghost use mathlib.Core.Path.{_≡_};
 ghost use denote.Ref.{name};
-ghost use Rattle.sheet.specs.Page.{area};
+ghost use Prim.Native.Nat.{_+_};
+ghost use Rattle.sheet.specs.Page.{capped};
 ghost use Rattle.sheet.specs.Sheet.{finished, filed, Patched, Wiped};
 use crate::fill::Fill;
 use crate::rectangle::Rectangle;
@@ -9,6 +10,15 @@ use crate::state::Finished;
 use crate::whole::rewrite;
 use entry::Entry;
 use refusal::Refusal;
+
+// Counts an edit of `n` pixels.
+fn count(edits: &mut u64, laid: &mut u64, n: usize)
+    ensures edits { λ _. ⌜ now (edits .exit) ≡ capped (now (edits .entry) + 1) ⌝ }
+    ensures laid { λ _. ⌜ now (laid .exit) ≡ capped (now (laid .entry) + n) ⌝ }
+{
+    *edits = edits.saturating_add(1);
+    *laid = laid.saturating_add(n as u64);
+}
 
 impl<'a, E: Entry> Finished<'a, E> {
     // Lays the levels, row after row, over a rectangle, and answers how many there are.
@@ -31,8 +41,7 @@ impl<'a, E: Entry> Finished<'a, E> {
             return Err(Refusal::PatchLength);
         }
         rewrite(table, *width, *height, rect, Fill::Each(levels));
-        *edits = edits.saturating_add(1);
-        *laid = laid.saturating_add(n as u64);
+        count(edits, laid, n);
         Ok(n)
     }
 
@@ -54,8 +63,7 @@ impl<'a, E: Entry> Finished<'a, E> {
         let n = rect.area();
         let fill: Fill<'static> = Fill::All(level);
         rewrite(table, *width, *height, rect, fill);
-        *edits = edits.saturating_add(1);
-        *laid = laid.saturating_add(n as u64);
+        count(edits, laid, n);
         Ok(n)
     }
 

@@ -36,14 +36,14 @@ pub(crate) fn lay_row<E: Entry>(table: &mut [E], y: usize, row: &[u8])
     ensures { λ _. ⌜ Filled E·Entry (length (now (row .entry)) + 1) (now (table .entry)) (y + 1) 0 (length (now (row .entry)) + 1) (λ i. joined (cell E·Entry (length (now (row .entry)) + 1) (now (table .entry)) i y) (prefix E·Entry (λ x. lifted (getD (now (row .entry)) x 0)) i)) (now (table .exit)) ⌝ }
 {
     let stride = row.len() + 1;
-    let mut sum = E::zero();
+    let mut before = E::zero();
     for (x, level) in row.iter().enumerate() {
         let above = read(table, stride, x, y);
-        write(table, stride, x, y + 1, above.join(sum));
-        sum = sum.join(E::lift(*level));
+        write(table, stride, x, y + 1, above.join(before));
+        before = before.join(E::lift(*level));
     }
     let last = read(table, stride, row.len(), y);
-    write(table, stride, row.len(), y + 1, last.join(sum));
+    write(table, stride, row.len(), y + 1, last.join(before));
 }
 
 // Lays table row `y + 1` from table row `y` and a page row of one level.

@@ -1,6 +1,6 @@
 use mathlib.Core.Path.{_≡_, _∙_}
 use mathlib.Core.Logic.{inr}
-use Prim.Native.Nat.{_+_}
+use Prim.Native.Nat.{_+_, _<_}
 use native.Mathlib.Omega.{arith}
 use Rattle.entry.specs.Sums.{prefix}
 use Rattle.sheet.specs.Table.{cell}
@@ -16,8 +16,9 @@ loop-x-again g c =
     let x = c .loop-x .x in
     let y = c .args .y in
     let inv = c .loop-x .inv in
+    let lt : x < s = omega arith in
     let sums = prefix k (λ i. k .lifted (c .args .level)) in
-    let above = inv .1 .others x y (c .loop-x-test .taken) (inr (inr (λ e. omega arith))) in
+    let above = inv .1 .others x y lt (inr (inr (λ e. omega arith))) in
     let is : c .join .result ≡ k .joined (cell k s t x y) (sums x) = cc in
     let sum : c .join-sum .result ≡ k .joined (sums x) (k .lifted (c .args .level)) = cc in
-    (sum ∙ prefix-more k (λ i. k .lifted (c .args .level)) x, filled-more k s t (y + 1) 0 _ x _ _ _ (c .loop-x-test .taken) (omega arith) (inv .1) (c .write .ensures) is)
+    (sum ∙ prefix-more k (λ i. k .lifted (c .args .level)) x, filled-more k s t (y + 1) 0 _ x _ _ _ lt (omega arith) (inv .1) (c .write .ensures) is)

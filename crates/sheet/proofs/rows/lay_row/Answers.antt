@@ -22,5 +22,5 @@ loop-x-again g c =
     let sums = prefix k (λ i. k .lifted (getD row i 0)) in
     let above = inv .1 .others x y lt (inr (inr (λ e. omega arith))) in
     let is : c .join .result ≡ k .joined (cell k s t x y) (sums x) = cc in
-    let sum : c .join-sum .result ≡ k .joined (sums x) (k .lifted (getD row x 0)) = cc in
+    let sum : c .join-before .result ≡ k .joined (sums x) (k .lifted (getD row x 0)) = cc in
     (sum ∙ prefix-more k (λ i. k .lifted (getD row i 0)) x, filled-more k s t (y + 1) 0 _ x _ _ _ lt (omega arith) (inv .1) (c .write .ensures) is)

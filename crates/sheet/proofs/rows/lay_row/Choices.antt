@@ -11,4 +11,4 @@ Inv-loop-x g l =
     let t = l .entry .table in
     let s = length (l .row) + 1 in
     let sums = prefix k (λ i. k .lifted (getD (l .row) i 0)) in
-    (l .sum ≡ sums (l .x)) × Filled k s t (l .y + 1) 0 (l .x) (λ i. k .joined (cell k s t i (l .y)) (sums i)) (l .table)
+    (l .before ≡ sums (l .x)) × Filled k s t (l .y + 1) 0 (l .x) (λ i. k .joined (cell k s t i (l .y)) (sums i)) (l .table)
