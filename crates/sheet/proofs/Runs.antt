@@ -17,8 +17,8 @@ use Rattle.refusal.specs.Answers.{Answer, accepted, refused, ensuring, told}
 use Rattle.refusal.specs.declared.Refusal.{Refusal}
 use Rattle.sheet.specs.declared.rectangle.Rectangle.{Rectangle}
 use Rattle.sheet.specs.Page.{Page, Levels, capped, ifAccepted, blank, begin, fitsAnswer, feed, feedAnswer, withRow, withRest, finish, edited, overlaid, wipeAnswer, patchAnswer, onSheet, columns, lines, area}
-use Rattle.sheet.specs.Run.{GrowingRun, FinishedRun, begun, fed, ended, wiped, patched, reading, pageSum, RunsAgree}
-use Rattle.sheet.specs.Sheet.{GrowingState, FinishedState, Holds, RowFed, Fed, Ended, Edited, Renewed, fourCorners, sumAnswer}
+use Rattle.sheet.specs.Run.{GrowingRun, FinishedRun, begun, fed, ended, wiped, patched, RunsAgree}
+use Rattle.sheet.specs.Sheet.{GrowingState, FinishedState, Holds, RowFed, Fed, Ended, Edited, Renewed, fourCorners, sumAnswer, reading, levelSum, SumLaw}
 use Rattle.sheet.specs.Table.{cell, cornerSum, less}
 use Rattle.sheet.proofs.Prefixes.{four-corners}
 
@@ -129,43 +129,47 @@ on-parts w h r is =
     let d = and-parts (leb (r .left) (r .right)) (leb (r .top) (r .bottom)) (b .0) in
     (leb-true (r .left) (r .right) (d .0), leb-true (r .top) (r .bottom) (d .1), ltb-true (r .right) w (b .1), ltb-true (r .bottom) h (a .1))
 
-module _ {E : Type 0} {k : Ghosts E} (laws : Group k) (s : FinishedState E) (p : Page) (same : FinishedLike k s p) where
-  sums-read : (r : Rectangle) → onSheet (p .width) (p .height) r ≡ true → fourCorners k (s .width) (s .memory) r ≡ reading k p r
-  sums-read r is =
-      let on = on-parts (p .width) (p .height) r is in
-      let e : ℕ → ℕ → E = λ x y. k .lifted (p .level x y) in
-      let has : (x y : ℕ) → x ≤ p .width → y ≤ p .height → cell k (s .width + 1) (s .memory) x y ≡ cornerSum k e x y =
-      λ x y hx hy. ap (λ w. cell k (w + 1) (s .memory) x y) (same .width-is) ∙ same .table (omega arith) .entry x y hx hy in
+-- sums on the table of any levels
+module _ {E : Type 0} {k : Ghosts E} (laws : Group k) (w h : ℕ) (p : Levels) (memory : List E) (holds : Holds k w h h p memory) (r : Rectangle) where
+  sums-read : onSheet w h r ≡ true → fourCorners k w memory r ≡ reading k p r
+  sums-read is =
+      let on = on-parts w h r is in
+      let e : ℕ → ℕ → E = λ x y. k .lifted (p x y) in
+      let has : (x y : ℕ) → x ≤ w → y ≤ h → cell k (w + 1) memory x y ≡ cornerSum k e x y = λ x y hx hy. holds (omega arith) .entry x y hx hy in
       let right : r .right + 1 ≡ r .left + columns r = omega arith in
       let bottom : r .bottom + 1 ≡ r .top + lines r = omega arith in
-      let c1 : cell k (s .width + 1) (s .memory) (r .right + 1) (r .bottom + 1) ≡ cornerSum k e (r .left + columns r) (r .top + lines r) =
-      has (r .right + 1) (r .bottom + 1) (omega arith) (omega arith) ∙ ap (λ x. cornerSum k e x (r .bottom + 1)) right ∙ ap (cornerSum k e (r .left + columns r)) bottom in
-      let c2 : cell k (s .width + 1) (s .memory) (r .left) (r .bottom + 1) ≡ cornerSum k e (r .left) (r .top + lines r) = has (r .left) (r .bottom + 1) (omega arith) (omega arith) ∙ ap (cornerSum k e (r .left)) bottom in
-      let c3 : cell k (s .width + 1) (s .memory) (r .right + 1) (r .top) ≡ cornerSum k e (r .left + columns r) (r .top) = has (r .right + 1) (r .top) (omega arith) (omega arith) ∙ ap (λ x. cornerSum k e x (r .top)) right in
+      let c1 : cell k (w + 1) memory (r .right + 1) (r .bottom + 1) ≡ cornerSum k e (r .left + columns r) (r .top + lines r) =
+          has (r .right + 1) (r .bottom + 1) (omega arith) (omega arith) ∙ ap (λ x. cornerSum k e x (r .bottom + 1)) right ∙ ap (cornerSum k e (r .left + columns r)) bottom in
+      let c2 : cell k (w + 1) memory (r .left) (r .bottom + 1) ≡ cornerSum k e (r .left) (r .top + lines r) = has (r .left) (r .bottom + 1) (omega arith) (omega arith) ∙ ap (cornerSum k e (r .left)) bottom in
+      let c3 : cell k (w + 1) memory (r .right + 1) (r .top) ≡ cornerSum k e (r .left + columns r) (r .top) = has (r .right + 1) (r .top) (omega arith) (omega arith) ∙ ap (λ x. cornerSum k e x (r .top)) right in
       let c4 = has (r .left) (r .top) (omega arith) (omega arith) in
-      let all : fourCorners k (s .width) (s .memory) r ≡ k .joined (less k (less k (cornerSum k e (r .left + columns r) (r .top + lines r)) (cornerSum k e (r .left) (r .top + lines r))) (cornerSum k e (r .left + columns r) (r .top))) (cornerSum k e (r .left) (r .top)) = cc in
+      let all : fourCorners k w memory r ≡ k .joined (less k (less k (cornerSum k e (r .left + columns r) (r .top + lines r)) (cornerSum k e (r .left) (r .top + lines r))) (cornerSum k e (r .left + columns r) (r .top))) (cornerSum k e (r .left) (r .top)) = cc in
       all ∙ four-corners laws e (r .left) (r .top) (columns r) (lines r) (omega arith)
 
-  sums-answered : (r : Rectangle) → sumAnswer k (s .width) (s .height) (s .memory) r ≡ pageSum k p r
-  sums-answered r =
-      let at : onSheet (s .width) (s .height) r ≡ onSheet (p .width) (p .height) r = ap (λ w. onSheet w (s .height) r) (same .width-is) ∙ ap (λ h. onSheet (p .width) h r) (same .height-is) in
-      let b = onSheet (p .width) (p .height) r in
-      ap (λ c. ensuring c 21 0 (accepted (fourCorners k (s .width) (s .memory) r))) at ∙ (elim (cases-bool b) [
-        | inl on ↦ ap (λ v. ensuring b 21 0 (accepted v)) (sums-read r on)
+  sums-answered : sumAnswer k w h memory r ≡ levelSum k w h p r
+  sums-answered =
+      let b = onSheet w h r in
+      elim (cases-bool b) [
+        | inl on ↦ ap (λ v. ensuring b 21 0 (accepted v)) (sums-read on)
         | inr off ↦ cond-false b _ _ off ∙ sym (cond-false b _ _ off)
-      ])
+      ]
+
+pub sum-law : {E : Type 0} {k : Ghosts E} → Group k → SumLaw k
+sum-law laws = record { sums = λ w h p memory holds r. sums-answered laws w h p memory holds r }
 
 pub runs-agree : {E : Type 0} {k : Ghosts E} → Group k → RunsAgree k
 runs-agree {E} {k} laws = record {
   agree = λ s p run.
-      let same = stood k run in
-      record {
-        width-is = same .width-is;
-        height-is = same .height-is;
-        edits-is = same .edits-is;
-        laid-is = same .laid-is;
-        table = same .table;
-        sums = sums-read laws s p same;
-        answers = sums-answered laws s p same;
-      };
+    let same = stood k run in
+    record {
+      width-is = same .width-is;
+      height-is = same .height-is;
+      edits-is = same .edits-is;
+      laid-is = same .laid-is;
+      table = same .table;
+      sums = λ r on. ap (λ w. fourCorners k w (s .memory) r) (same .width-is) ∙ sums-read laws (p .width) (p .height) (p .level) (s .memory) (same .table) r on;
+      answers = λ r.
+        ap (λ w. sumAnswer k w (s .height) (s .memory) r) (same .width-is) ∙ ap (λ h. sumAnswer k (p .width) h (s .memory) r) (same .height-is)
+        ∙ sums-answered laws (p .width) (p .height) (p .level) (s .memory) (same .table) r;
+    };
 }

@@ -2,16 +2,14 @@
 use mathlib.Core.Path.{_≡_}
 use mathlib.Core.Bool.{true}
 use mathlib.Core.List.{List}
-use Prim.Native.Nat.{ℕ, _+_, _/_, _%_}
+use Prim.Native.Nat.{ℕ}
 use lib.ListN.{length}
 use Rattle.std.specs.declared.result.Result.{Result}
-use Rattle.entry.specs.Sums.{prefix}
 use Rattle.entry.specs.declared.kind.entry.Entry.{Ghosts}
-use Rattle.refusal.specs.Answers.{Answer, accepted, ensuring}
 use Rattle.refusal.specs.declared.Refusal.{Refusal}
 use Rattle.sheet.specs.declared.rectangle.Rectangle.{Rectangle}
-use Rattle.sheet.specs.Page.{Page, begin, feed, finish, wipe, patch, onSheet, columns, area}
-use Rattle.sheet.specs.Sheet.{GrowingState, FinishedState, Begun, Fed, Ended, Wiped, Patched, Holds, fourCorners, sumAnswer}
+use Rattle.sheet.specs.Page.{Page, begin, feed, finish, wipe, patch, onSheet}
+use Rattle.sheet.specs.Sheet.{GrowingState, FinishedState, Begun, Fed, Ended, Wiped, Patched, Holds, fourCorners, reading, sumAnswer, levelSum}
 
 -- a growing sheet and its plain page, after the same calls
 pub data GrowingRun {E : Type 0} (k : Ghosts E) : GrowingState E → Page → Type 0 where
@@ -24,14 +22,6 @@ pub data FinishedRun {E : Type 0} (k : Ghosts E) : FinishedState E → Page → 
   wiped : {s t : FinishedState E} {p : Page} (rect : Rectangle) (level : ℕ) (r : Result ℕ Refusal) → FinishedRun k s p → Wiped k s rect level r t → FinishedRun k t (wipe rect level p)
   patched : {s t : FinishedState E} {p : Page} (rect : Rectangle) (levels : List ℕ) (r : Result ℕ Refusal) → FinishedRun k s p → Patched k s rect levels r t → FinishedRun k t (patch rect levels p)
 
--- the lifted levels of a rectangle of the page, joined one by one from the identity on, in reading order
-abbrev pub reading : {E : Type 0} → Ghosts E → Page → Rectangle → E
-reading k p r = prefix k (λ n. k .lifted (p .level (r .left + n % columns r) (r .top + n / columns r))) (area r)
-
--- what the plain page answers for the sum of a rectangle
-abbrev pub pageSum : {E : Type 0} → Ghosts E → Page → Rectangle → Answer E
-pageSum k p r = ensuring (onSheet (p .width) (p .height) r) 21 0 (accepted (reading k p r))
-
 -- what a finished sheet and its plain page have in common
 pub record Agree {E : Type 0} (k : Ghosts E) (s : FinishedState E) (p : Page) : Type 0 where
   pub width-is : s .width ≡ p .width
@@ -41,8 +31,8 @@ pub record Agree {E : Type 0} (k : Ghosts E) (s : FinishedState E) (p : Page) : 
   -- every entry of the table is the joining of the lifted levels left of it and above it
   pub table : Holds k (p .width) (p .height) (p .height) (p .level) (s .memory)
   -- every rectangle's four corners give its levels, joined in reading order
-  pub sums : (r : Rectangle) → onSheet (p .width) (p .height) r ≡ true → fourCorners k (s .width) (s .memory) r ≡ reading k p r
-  pub answers : (r : Rectangle) → sumAnswer k (s .width) (s .height) (s .memory) r ≡ pageSum k p r
+  pub sums : (r : Rectangle) → onSheet (p .width) (p .height) r ≡ true → fourCorners k (s .width) (s .memory) r ≡ reading k (p .level) r
+  pub answers : (r : Rectangle) → sumAnswer k (s .width) (s .height) (s .memory) r ≡ levelSum k (p .width) (p .height) (p .level) r
 
 -- After any run, of any length and with any arguments, refused calls among them, the sheet and its plain page agree.
 pub record RunsAgree {E : Type 0} (k : Ghosts E) : Type 0 where

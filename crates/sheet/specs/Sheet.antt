@@ -2,12 +2,13 @@
 use mathlib.Core.Path.{_≡_}
 use mathlib.Core.List.{List}
 use mathlib.Core.Bool.{cond}
-use Prim.Native.Nat.{ℕ, _+_, _-_, _*_, _≤_, _<_}
+use Prim.Native.Nat.{ℕ, _+_, _-_, _*_, _/_, _%_, _≤_, _<_}
 use lib.Dec.{eqb}
 use lib.ListN.{length, drop, getD}
 use denote.Ref.{now}
 use Rattle.std.specs.Results.{Cases}
 use Rattle.std.specs.declared.result.Result.{Result}
+use Rattle.entry.specs.Sums.{prefix}
 use Rattle.entry.specs.declared.kind.entry.Entry.{Ghosts}
 use Rattle.refusal.specs.Answers.{Answer, accepted, ensuring, told}
 use Rattle.refusal.specs.declared.Refusal.{Refusal}
@@ -117,6 +118,18 @@ fourCorners k width memory r =
 
 abbrev pub sumAnswer : {E : Type 0} → Ghosts E → (width height : ℕ) → List E → Rectangle → Answer E
 sumAnswer k width height memory r = ensuring (onSheet width height r) 21 0 (accepted (fourCorners k width memory r))
+
+-- the lifted levels of a rectangle, joined one by one from the identity on, in reading order
+abbrev pub reading : {E : Type 0} → Ghosts E → Levels → Rectangle → E
+reading k p r = prefix k (λ n. k .lifted (p (r .left + n % columns r) (r .top + n / columns r))) (area r)
+
+-- the sum of a rectangle of these levels, on a sheet of that size
+abbrev pub levelSum : {E : Type 0} → Ghosts E → (width height : ℕ) → Levels → Rectangle → Answer E
+levelSum k width height p r = ensuring (onSheet width height r) 21 0 (accepted (reading k p r))
+
+-- The four corners of every rectangle, on the table of any levels, give those levels joined in reading order.
+pub record SumLaw {E : Type 0} (k : Ghosts E) : Type 0 where
+  pub sums : (width height : ℕ) (p : Levels) (memory : List E) → Holds k width height height p memory → (r : Rectangle) → sumAnswer k width height memory r ≡ levelSum k width height p r
 
 -- the counts, edits first
 abbrev pub filed : {E : Type 0} → FinishedState E → ℕ × ℕ

@@ -3,7 +3,7 @@ ghost use mathlib.Core.Path.{_≡_};
 ghost use Prim.Native.Nat.{_+_, _<_, _≤_};
 ghost use Rattle.refusal.specs.Answers.{told};
 ghost use Rattle.sheet.specs.Run.{RunsAgree};
-ghost use Rattle.sheet.specs.Sheet.{sumAnswer};
+ghost use Rattle.sheet.specs.Sheet.{sumAnswer, SumLaw};
 ghost use Rattle.sheet.specs.Table.{cell};
 ghost use Rattle.sheet.specs.View.{Viewed};
 use crate::cells::read;
@@ -14,9 +14,10 @@ use crate::table::Table;
 use entry::Entry;
 use refusal::Refusal;
 
-// The law over all runs; no code runs.
-fn run_law<E: Entry>()
-    ensures { λ _. ⌜ RunsAgree E·Entry ⌝ }
+// What sums are on the table of any levels, and after any run; no code runs.
+fn sum_laws<E: Entry>()
+    ensures law { λ _. ⌜ SumLaw E·Entry ⌝ }
+    ensures runs { λ _. ⌜ RunsAgree E·Entry ⌝ }
 {}
 
 impl<'a, E: Entry> Table<'a, E> {
@@ -43,9 +44,10 @@ impl<'a, E: Entry> Table<'a, E> {
     // The entry of a rectangle, from the four corners of the table.
     pub fn sum(&self, rect: Rectangle) -> Result<E, Refusal>
         ensures answer { λ r. ⌜ told r ≡ sumAnswer E·Entry (now (self .entry) .width) (now (self .entry) .height) (now (now (self .entry) .entries)) rect ⌝ }
-        ensures law { λ _. ⌜ RunsAgree E·Entry ⌝ }
+        ensures law { λ _. ⌜ SumLaw E·Entry ⌝ }
+        ensures runs { λ _. ⌜ RunsAgree E·Entry ⌝ }
     {
-        run_law::<E>();
+        sum_laws::<E>();
         if !rect.is_on(self.width, self.height) {
             return Err(Refusal::OffSheet);
         }
@@ -72,7 +74,8 @@ impl<'a, E: Entry> Finished<'a, E> {
     // The entry of a rectangle, from the four corners of the table.
     pub fn sum(&self, rect: Rectangle) -> Result<E, Refusal>
         ensures answer { λ r. ⌜ told r ≡ sumAnswer E·Entry (now (self .entry) .width) (now (self .entry) .height) (now (now (self .entry) .table)) rect ⌝ }
-        ensures law { λ _. ⌜ RunsAgree E·Entry ⌝ }
+        ensures law { λ _. ⌜ SumLaw E·Entry ⌝ }
+        ensures runs { λ _. ⌜ RunsAgree E·Entry ⌝ }
     {
         self.table().sum(rect)
     }
