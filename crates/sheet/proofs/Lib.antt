@@ -7,3 +7,4 @@ pub mod Edits
 pub mod Calls
 pub mod Laws
 pub mod Runs
+pub mod PageRows

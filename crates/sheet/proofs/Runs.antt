@@ -139,7 +139,7 @@ module _ {E : Type 0} {k : Ghosts E} (laws : Group k) (w h : ℕ) (p : Levels) (
       let right : r .right + 1 ≡ r .left + columns r = omega arith in
       let bottom : r .bottom + 1 ≡ r .top + lines r = omega arith in
       let c1 : cell k (w + 1) memory (r .right + 1) (r .bottom + 1) ≡ cornerSum k e (r .left + columns r) (r .top + lines r) =
-          has (r .right + 1) (r .bottom + 1) (omega arith) (omega arith) ∙ ap (λ x. cornerSum k e x (r .bottom + 1)) right ∙ ap (cornerSum k e (r .left + columns r)) bottom in
+      has (r .right + 1) (r .bottom + 1) (omega arith) (omega arith) ∙ ap (λ x. cornerSum k e x (r .bottom + 1)) right ∙ ap (cornerSum k e (r .left + columns r)) bottom in
       let c2 : cell k (w + 1) memory (r .left) (r .bottom + 1) ≡ cornerSum k e (r .left) (r .top + lines r) = has (r .left) (r .bottom + 1) (omega arith) (omega arith) ∙ ap (cornerSum k e (r .left)) bottom in
       let c3 : cell k (w + 1) memory (r .right + 1) (r .top) ≡ cornerSum k e (r .left + columns r) (r .top) = has (r .right + 1) (r .top) (omega arith) (omega arith) ∙ ap (λ x. cornerSum k e x (r .top)) right in
       let c4 = has (r .left) (r .top) (omega arith) (omega arith) in
@@ -160,16 +160,16 @@ sum-law laws = record { sums = λ w h p memory holds r. sums-answered laws w h p
 pub runs-agree : {E : Type 0} {k : Ghosts E} → Group k → RunsAgree k
 runs-agree {E} {k} laws = record {
   agree = λ s p run.
-    let same = stood k run in
-    record {
-      width-is = same .width-is;
-      height-is = same .height-is;
-      edits-is = same .edits-is;
-      laid-is = same .laid-is;
-      table = same .table;
-      sums = λ r on. ap (λ w. fourCorners k w (s .memory) r) (same .width-is) ∙ sums-read laws (p .width) (p .height) (p .level) (s .memory) (same .table) r on;
-      answers = λ r.
-        ap (λ w. sumAnswer k w (s .height) (s .memory) r) (same .width-is) ∙ ap (λ h. sumAnswer k (p .width) h (s .memory) r) (same .height-is)
-        ∙ sums-answered laws (p .width) (p .height) (p .level) (s .memory) (same .table) r;
-    };
+      let same = stood k run in
+      record {
+        width-is = same .width-is;
+        height-is = same .height-is;
+        edits-is = same .edits-is;
+        laid-is = same .laid-is;
+        table = same .table;
+        sums = λ r on. ap (λ w. fourCorners k w (s .memory) r) (same .width-is) ∙ sums-read laws (p .width) (p .height) (p .level) (s .memory) (same .table) r on;
+        answers = λ r.
+            ap (λ w. sumAnswer k w (s .height) (s .memory) r) (same .width-is) ∙ ap (λ h. sumAnswer k (p .width) h (s .memory) r) (same .height-is)
+            ∙ sums-answered laws (p .width) (p .height) (p .level) (s .memory) (same .table) r;
+      };
 }

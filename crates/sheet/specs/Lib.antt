@@ -4,3 +4,4 @@ pub mod Fill
 pub mod Sheet
 pub mod Run
 pub mod View
+pub mod PageTable

@@ -3,6 +3,7 @@ mod cells;
 mod fill;
 mod finished;
 mod growing;
+mod pages;
 mod passes;
 mod questions;
 mod rectangle;
@@ -13,6 +14,7 @@ mod whole;
 
 pub use growing::begin;
 pub use growing::fits;
+pub use pages::lay_page;
 pub use rectangle::Rectangle;
 pub use state::Finished;
 pub use state::Growing;
