@@ -131,7 +131,7 @@ on-parts w h r is =
 
 -- sums on the table of any levels
 module _ {E : Type 0} {k : Ghosts E} (laws : Group k) (w h : ℕ) (p : Levels) (memory : List E) (holds : Holds k w h h p memory) (r : Rectangle) where
-  sums-read : onSheet w h r ≡ true → fourCorners k w memory r ≡ reading k p r
+  pub sums-read : onSheet w h r ≡ true → fourCorners k w memory r ≡ reading k p r
   sums-read is =
       let on = on-parts w h r is in
       let e : ℕ → ℕ → E = λ x y. k .lifted (p x y) in

@@ -100,8 +100,12 @@ edited r f p = record {
   laid = capped (p .laid + area r);
 }
 
+-- how many pixels a rectangle on the sheet has
+abbrev pub areaAnswer : (width height : ℕ) → Rectangle → Answer ℕ
+areaAnswer width height r = ensuring (onSheet width height r) 21 0 (accepted (area r))
+
 abbrev pub wipeAnswer : (width height : ℕ) → Rectangle → Answer ℕ
-wipeAnswer width height r = ensuring (onSheet width height r) 21 0 (accepted (area r))
+wipeAnswer width height r = areaAnswer width height r
 
 abbrev pub wipe : Rectangle → ℕ → Page → Page
 wipe r level p = ifAccepted (wipeAnswer (p .width) (p .height) r) (edited r (λ n. level) p) p

@@ -10,9 +10,18 @@ use Rattle.refusal.specs.declared.Refusal.{Refusal}
 use Rattle.sheet.specs.declared.table.Table.{Table}
 use Rattle.sheet.specs.Page.{fitsAnswer}
 
--- the entries, width and height that a table shows
+-- what a table shows
+abbrev pub widthOf : {E : Type 0} → Table E → ℕ
+widthOf t = t .width
+
+abbrev pub heightOf : {E : Type 0} → Table E → ℕ
+heightOf t = t .height
+
+abbrev pub entriesOf : {E : Type 0} → Table E → List E
+entriesOf t = now (t .entries)
+
 abbrev pub shown : {E : Type 0} → Table E → List E × ℕ × ℕ
-shown t = (now (t .entries), t .width, t .height)
+shown t = (entriesOf t, widthOf t, heightOf t)
 
 -- the memory and the sizes asked for, or the refusal of what does not fit
 abbrev pub viewAnswer : {E : Type 0} → List E → (width height : ℕ) → Answer (List E × ℕ × ℕ)

@@ -2,6 +2,7 @@
 ghost use mathlib.Core.Path.{_≡_};
 ghost use Prim.Native.Nat.{_+_, _<_, _≤_};
 ghost use Rattle.refusal.specs.Answers.{told};
+ghost use Rattle.sheet.specs.Page.{areaAnswer};
 ghost use Rattle.sheet.specs.Run.{RunsAgree};
 ghost use Rattle.sheet.specs.Sheet.{sumAnswer, SumLaw};
 ghost use Rattle.sheet.specs.Table.{cell};
@@ -39,6 +40,16 @@ impl<'a, E: Entry> Table<'a, E> {
         ensures { λ r. ⌜ r ≡ cell E·Entry (now (self .entry) .width + 1) (now (now (self .entry) .entries)) x y ⌝ }
     {
         read(self.entries, self.width + 1, x, y)
+    }
+
+    // How many pixels a rectangle has.
+    pub fn area(&self, rect: Rectangle) -> Result<usize, Refusal>
+        ensures { λ r. ⌜ told r ≡ areaAnswer (now (self .entry) .width) (now (self .entry) .height) rect ⌝ }
+    {
+        if !rect.is_on(self.width, self.height) {
+            return Err(Refusal::OffSheet);
+        }
+        Ok(rect.area())
     }
 
     // The entry of a rectangle, from the four corners of the table.
