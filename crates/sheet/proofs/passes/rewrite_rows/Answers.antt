@@ -1,9 +1,10 @@
 use mathlib.Core.Path.{refl}
-use Prim.Native.Nat.{_+_, _-_, _*_}
+use Prim.Native.Nat.{ℕ, _+_, _-_, _*_}
 use native.Mathlib.Nat.{mul-comm}
 use native.Mathlib.Omega.{arith}
 use lib.ListN.{length}
 use Rattle.std.proofs.shelf.Bits.{mul-add-lt, mul-le}
+use Rattle.sheet.specs.Fill.{levelAt}
 use Rattle.sheet.specs.Page.{columns, lines}
 use Rattle.sheet.proofs.Places.{room}
 use Rattle.sheet.proofs.RowSteps.{rewritten-more}
@@ -11,8 +12,12 @@ use Rattle.sheet.proofs.passes.rewrite_rows.Needs as need
 
 pub loop-y-again : need.loop-y-again
 loop-y-again g c =
+    let k = g .E·Entry in
     let r = c .args .rect in
-    rewritten-more (g .E·Entry) (c .args .width + 1) (c .args .table .now) (r .left) (r .right + 1) (r .top) (c .loop-y .y) _ _ _ _ (omega arith) (omega arith) (omega arith) (c .loop-y .inv) (c .rewrite-row .ensures) (λ n. refl)
+    let y = c .loop-y .y in
+    let laid : ℕ → ℕ → ℕ → g .E .Denot = λ row i j. k .lifted (levelAt (c .args .fill) ((row - r .top) * columns r + (i - r .left))) in
+    rewritten-more k (c .args .width + 1) (c .args .table .now) (r .left) (r .right + 1) (r .top) y (λ i j. laid j i j) (laid y) (c .loop-y .table) (c .rewrite-row .last .table) (omega arith) (omega arith) (omega arith)
+      (c .loop-y .inv) (c .rewrite-row .ensures) (λ n. refl {a = laid y (r .left + n) y})
 
 pub rewrite-row-requires : need.rewrite-row-requires
 rewrite-row-requires g c κs =
