@@ -1,16 +1,18 @@
 // What the program prints.
 ghost use mathlib.Core.Path.{_≡_};
-ghost use Rattle.plots.specs.Printed.{outcomeText, Prints};
+ghost use Prim.Native.Nat.{_+_, _*_, _≤_};
+ghost use Rattle.plots.specs.Printed.{outcomeText, printed};
+ghost use Rattle.scan.specs.Reading.{scanAnswer};
+ghost use Rattle.std.specs.Of.Vec.{vec-len};
 ghost use Rattle.std.specs.Vec.{made};
 ghost use Rattle.std.specs.declared.option.Option.the-variants.{Some};
-use crate::survey::total;
+use crate::survey::survey;
 use entry::Entry;
 use entry::Whole;
 use entry::kinds::whole::WholeEntry;
 use refusal::Layer;
 use refusal::Report;
 use refusal::ReportDisplay;
-use scan::Scan;
 use std::alloc::AllocError;
 use std::alloc::Global;
 use std::fmt;
@@ -26,30 +28,29 @@ pub(crate) enum Outcome {
     Refused(Report),
 }
 
-// Entries for the table of a scan.
-fn table_memory(heap: Global, scan: Scan<'_>) -> Result<Vec<Whole>, AllocError> {
+// Entries for the table of a sheet.
+fn table_memory(heap: Global, width: usize, height: usize) -> Result<Vec<Whole>, AllocError>
+    requires { ⌜ width ≤ 4096 ⌝ ∗ ⌜ height ≤ 4096 ⌝ }
+    ensures { λ r. ⌜ made r (λ v. vec-len v ≡ (width + 1) * (height + 1)) ⌝ }
+{
     let mut memory = Vec::new(heap);
-    for _ in 0..scan.width
-        .saturating_add(1)
-        .saturating_mul(scan.height.saturating_add(1)) {
+    for pushed in 0..(width + 1) * (height + 1) {
         memory.push(Whole::zero())?;
     }
     Ok(memory)
 }
 
-// A good scan is filled into a sheet; what the reader or the sheet refuses comes out as a report.
+// A good scan is filled into a sheet; what the reader refuses comes out as a report.
 pub(crate) fn outcome_of(heap: Global, bytes: &[u8]) -> Result<Outcome, AllocError>
-    ensures { λ r. ⌜ made r (λ o. Prints (now (bytes .entry)) o) ⌝ }
+    ensures { λ r. ⌜ made r (λ o. outcomeText o ≡ printed (scanAnswer (now (bytes .entry)))) ⌝ }
 {
     match scan::read(bytes) {
         Ok(scan) => {
-            let mut memory = table_memory(heap, scan)?;
-            let width = scan.width;
-            let height = scan.height;
-            match total(scan, memory.as_mut_slice()) {
+            let mut memory = table_memory(heap, scan.width, scan.height)?;
+            match survey(scan.width, scan.height, scan.levels, memory.as_mut_slice()) {
                 Ok(total) => Ok(Outcome::Sheet {
-                    width,
-                    height,
+                    width: scan.width,
+                    height: scan.height,
                     total,
                 }),
                 Err(refusal) => Ok(Outcome::Refused(Report {

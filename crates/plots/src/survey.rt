@@ -1,30 +1,34 @@
 // What the program does with a scan.
-use entry::Entry;
-use entry::Tally;
+ghost use mathlib.Core.Path.{_≡_};
+ghost use lib.ListN.{length};
+ghost use Rattle.plots.specs.Printed.{surveyAnswer};
+ghost use Rattle.refusal.specs.Answers.{told};
 use entry::Whole;
 use entry::kinds::whole::WholeEntry;
+use entry::kinds::whole::WholeModular;
 use entry::kinds::whole::WholeTally;
+use questions::total;
 use refusal::Refusal;
-use scan::Scan;
 use sheet::Rectangle;
-use sheet::begin;
+use sheet::Table;
+use sheet::lay_page;
 
-// The level of paper, for rows that a scan leaves out.
-const PAPER: u8 = 255;
-
-// Fills a sheet in `memory` with the scan, and adds up all its levels.
-pub(crate) fn total(scan: Scan<'_>, memory: &mut [Whole]) -> Result<u32, Refusal> {
-    let mut growing = begin(memory, scan.width, scan.height);
-    for row in scan.levels.chunks_exact(scan.width.max(1)) {
-        let _ = growing.feed(row);
-    }
-    let sheet = growing.finish(PAPER);
-    let sum = sheet.sum(Rectangle {
+// Fills the table of a sheet in `memory`, and adds up all its levels.
+pub(crate) fn survey(
+    width: usize,
+    height: usize,
+    levels: &[u8],
+    memory: &mut [Whole],
+) -> Result<u32, Refusal>
+    ensures { λ r. ⌜ told r ≡ surveyAnswer width height (length (now (memory .entry))) (now (levels .entry)) ⌝ }
+{
+    lay_page(memory, width, height, levels)?;
+    let table = Table::of(memory, width, height)?;
+    let all = Rectangle {
         left: 0,
         top: 0,
-        right: scan.width.saturating_sub(1),
-        bottom: scan.height.saturating_sub(1),
-    });
-    let _ = sheet.file();
-    Ok(sum?.value())
+        right: width.saturating_sub(1),
+        bottom: height.saturating_sub(1),
+    };
+    total(&table, all)
 }

@@ -5,7 +5,7 @@ use Prim.Native.Nat.{ℕ}
 use native.Mathlib.Omega.{arith}
 use Rattle.refusal.specs.Answers.{Answer, accepted, refused, andThen, ensuring}
 
-never : {A : Type 0} (n p : ℕ) (a : A) → refused n p ≡ accepted a → ⊥
+pub never : {A : Type 0} (n p : ℕ) (a : A) → refused n p ≡ accepted a → ⊥
 never n p a e = let z : _≡_ {A = ℕ} 0 1 = cc in omega arith
 
 pub accepted-same : {A : Type 0} (a b : A) → accepted a ≡ accepted b → a ≡ b

@@ -11,11 +11,12 @@ use Rattle.std.proofs.shelf.Ways.{tells}
 use Rattle.entry.specs.Group.{Group}
 use Rattle.entry.specs.Sums.{prefix}
 use Rattle.entry.specs.declared.kind.entry.Entry.{Ghosts}
+use Rattle.sheet.specs.declared.fill.Fill.{Fill}
 use Rattle.sheet.specs.declared.rectangle.Rectangle.{Rectangle}
 use Rattle.sheet.specs.declared.rows.Sign.the-variants.{Plus, Minus}
 use Rattle.sheet.specs.Fill.{levelAt}
 use Rattle.sheet.specs.Page.{Levels, columns, covers, overlaid}
-use Rattle.sheet.specs.Sheet.{Past, Renewed, EditLaw}
+use Rattle.sheet.specs.Sheet.{Past, Renewed, Carried, Laid, OnTable}
 use Rattle.sheet.specs.Table.{cell, cornerSum, less, prefixFrom, Added, Rewritten, TableOf}
 use Rattle.sheet.proofs.Prefixes.{prefix-same, corner-same, corner-row, less-left, shifted, prefix-split, from-prefix, corner-columns, corner-rows}
 use Rattle.sheet.proofs.Tables.{past-kept}
@@ -153,7 +154,9 @@ module _ {E : Type 0} {k : Ghosts E} (laws : Group k) (w h : ℕ) (r : Rectangle
       rest = λ x y hx lo up. absurd (omega arith);
     }
 
-pub edit-law : {E : Type 0} {k : Ghosts E} → Group k → EditLaw k
+-- The rows below lose what the rectangle's last row has, the rectangle is laid, and the rows below get that row back.
+pub edit-law : {E : Type 0} {k : Ghosts E} → Group k → (w h n : ℕ) (r : Rectangle) (fill : Fill) (t0 t1 t2 t3 : List E) → OnTable w h r n →
+    Carried k w h r Minus t0 t1 → Laid k w r fill t1 t2 → Carried k w h r Plus t2 t3 → Renewed k w h h h (overlaid r (levelAt fill)) t0 t3
 unfolding Renewed
 edit-law laws w h n r fill t0 t1 t2 t3 on p1 p2 p3 = record {
   past = edit-past laws w h r (levelAt fill) t0 t1 t2 t3 (on .across) (on .down) (on .right) (on .bottom) (p1 .rows) (p2 .rows) (p3 .rows);

@@ -15,7 +15,6 @@ use Rattle.refusal.specs.declared.Refusal.{Refusal}
 use Rattle.sheet.specs.declared.fill.Fill.{Fill}
 use Rattle.sheet.specs.declared.rectangle.Rectangle.{Rectangle}
 use Rattle.sheet.specs.declared.rows.Sign.{Sign}
-use Rattle.sheet.specs.declared.rows.Sign.the-variants.{Plus, Minus}
 use Rattle.sheet.specs.declared.state.Finished.{Finished}
 use Rattle.sheet.specs.declared.state.Growing.{Growing}
 use Rattle.sheet.specs.Fill.{levelAt}
@@ -152,9 +151,3 @@ pub record Carried {E : Type 0} (k : Ghosts E) (width height : ℕ) (r : Rectang
 -- the rectangle's table rows with new levels
 pub record Laid {E : Type 0} (k : Ghosts E) (width : ℕ) (r : Rectangle) (fill : Fill) (before after : List E) : Type 0 where
   pub rows : Rewritten k (width + 1) before (r .left) (r .right + 1) (r .top) (r .bottom + 1) (λ i j. k .lifted (levelAt fill ((j - r .top) * columns r + (i - r .left)))) after
-
--- The rows below lose what the rectangle's last row has, the rectangle is laid, and the rows below get that row back: so the table of some levels becomes the table of the levels with the rectangle laid over them.
-abbrev pub EditLaw : {E : Type 0} → Ghosts E → Type 0
-EditLaw {E} k =
-    (width height n : ℕ) (r : Rectangle) (fill : Fill) (t0 t1 t2 t3 : List E) → OnTable width height r n →
-    Carried k width height r Minus t0 t1 → Laid k width r fill t1 t2 → Carried k width height r Plus t2 t3 → Renewed k width height height height (overlaid r (levelAt fill)) t0 t3

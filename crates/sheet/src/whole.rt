@@ -4,7 +4,7 @@ ghost use Prim.Native.Nat.{ℕ, _+_, _*_, _<_, _≤_};
 ghost use lib.ListN.{length};
 ghost use Rattle.sheet.specs.Fill.{Reaches, levelAt};
 ghost use Rattle.sheet.specs.Page.{area, overlaid, withRest, withRow};
-ghost use Rattle.sheet.specs.Sheet.{Blank, Carried, EditLaw, OnTable, Renewed};
+ghost use Rattle.sheet.specs.Sheet.{Blank, Carried, OnTable, Renewed};
 use crate::fill::Fill;
 use crate::passes::add_rows;
 use crate::passes::clear;
@@ -55,11 +55,6 @@ fn carry<E: Entry>(table: &mut [E], width: usize, height: usize, rect: Rectangle
     );
 }
 
-// What the three steps of `rewrite` come to; no code runs.
-fn edit_law<E: Entry>()
-    ensures { λ _. ⌜ EditLaw E·Entry ⌝ }
-{}
-
 // Lays levels over a rectangle, and so renews every entry right of its left side and below its top.
 pub(crate) fn rewrite<E: Entry>(
     table: &mut [E],
@@ -72,7 +67,6 @@ pub(crate) fn rewrite<E: Entry>(
     requires reaches { ⌜ ((n : ℕ) → n < area rect → Reaches fill n) ⌝ }
     ensures { λ _. ⌜ Renewed E·Entry width height height height (overlaid rect (levelAt (fill .entry))) (now (table .entry)) (now (table .exit)) ⌝ }
 {
-    edit_law::<E>();
     carry(table, width, height, rect, Sign::Minus);
     rewrite_rows(table, width, height, rect, fill);
     carry(table, width, height, rect, Sign::Plus);

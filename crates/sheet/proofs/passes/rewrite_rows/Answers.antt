@@ -17,7 +17,7 @@ loop-y-again g c =
     let y = c .loop-y .y in
     let laid : ℕ → ℕ → ℕ → g .E .Denot = λ row i j. k .lifted (levelAt (c .args .fill) ((row - r .top) * columns r + (i - r .left))) in
     rewritten-more k (c .args .width + 1) (c .args .table .now) (r .left) (r .right + 1) (r .top) y (λ i j. laid j i j) (laid y) (c .loop-y .table) (c .rewrite-row .last .table) (omega arith) (omega arith) (omega arith)
-      (c .loop-y .inv) (c .rewrite-row .ensures) (λ n. refl {a = laid y (r .left + n) y})
+    (c .loop-y .inv) (c .rewrite-row .ensures) (λ n. refl {a = laid y (r .left + n) y})
 
 pub rewrite-row-requires : need.rewrite-row-requires
 rewrite-row-requires g c κs =
