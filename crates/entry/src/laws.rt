@@ -39,7 +39,7 @@ pub fn kinds_are_groups<A: Entry, B: Entry>()
 
 // When the number of joined levels is their plain sum; no code runs.
 fn exact_law<M: Modular>()
-    ensures { Exact M.Entry M.Modular }
+    ensures { Exact M.Entry M.Modular.own }
 {}
 
 // Joined levels have their plain sum, up to each kind's limit: 257 levels in 16 bits, and more than the largest sheet has in the other words.

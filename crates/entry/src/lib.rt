@@ -1,4 +1,6 @@
 // The kinds of entry that a table of partial sums can hold.
+#![tactic(auto)]
+
 pub mod kind;
 pub mod kinds;
 pub mod laws;

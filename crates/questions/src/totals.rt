@@ -11,14 +11,14 @@ use sheet::{Rectangle, Table};
 
 // What totals are on the table of any levels, and what tables are after any run; no code runs.
 pub(crate) fn total_laws<T: Tally>()
-    ensures law { TotalLaw T.Entry T.Modular }
+    ensures law { TotalLaw T.Entry T.Modular.own }
     ensures runs { RunsAgree T.Entry }
 {}
 
 // The sum of a rectangle as a number: of its levels on narrow and whole sheets, of its ink pixels on ink sheets.
 pub fn total<T: Tally>(table: &Table<'_, T>, rect: Rectangle) -> Result<u32, Refusal>
-    ensures answer { told result ≡ total_answer T.Entry T.Modular (width_of table.now) (height_of table.now) (entries_of table.now) rect }
-    ensures law { TotalLaw T.Entry T.Modular }
+    ensures answer { told result ≡ total_answer T.Entry T.Modular.own (width_of table.now) (height_of table.now) (entries_of table.now) rect }
+    ensures law { TotalLaw T.Entry T.Modular.own }
     ensures runs { RunsAgree T.Entry }
 {
     total_laws::<T>();

@@ -28,7 +28,7 @@ pub fn neighbourhood_at<T: WideTally>(
     ensures level { result.level ≡ T.Modular.number (cut_sum_at T.Entry table.now.width table.now.height table.now.entries.now (window_offsets point) x y) }
     ensures total { result.total ≡ T.Modular.number (cut_sum_at T.Entry table.now.width table.now.height table.now.entries.now (window_offsets window) x y) }
     ensures count { result.count ≡ cut_area_at table.now.width table.now.height (window_offsets window) x y }
-    ensures law { WindowLaw T.Entry T.Modular }
+    ensures law { WindowLaw T.Entry T.Modular.own }
 {
     window_law::<T>();
     let pixel = cut_at(table, POINT.offsets(), x, y);
@@ -61,7 +61,7 @@ impl<'a, 'b, T: WideTally, S: Shade> Raster for Windowed<'a, 'b, T, S> {
 
     ghost tall = { λ s. s.table.now.height };
 
-    ghost byte = { λ s x y. window_byte T.Entry T.Modular (S.Shade.shaded s.rule) s.table.now.width s.table.now.height s.table.now.entries.now s.window x y };
+    ghost byte = { λ s x y. window_byte T.Entry T.Modular.own (S.Shade.shaded s.rule) s.table.now.width s.table.now.height s.table.now.entries.now s.window x y };
 
     fn width(&self) -> u16 {
         self.table.width as u16

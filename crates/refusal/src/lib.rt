@@ -1,4 +1,6 @@
 // Why a call is refused: one number for each reason, and the line that a program prints of it.
+#![tactic(auto)]
+
 ghost use Rattle.std.specs.Prelude.{◌≡◌, Some};
 ghost use Rattle.refusal.specs.Answers.{number_of, layer_name, report_line};
 

@@ -1,4 +1,6 @@
 // The reader of a scan file: binary PGM with levels of 8 bits. `docs/SCAN.md` has the format.
+#![tactic(auto)]
+
 mod fault;
 mod gap;
 mod numeral;

@@ -1,4 +1,6 @@
 // A sheet: a table of partial sums over lent memory, fed row by row, then patched, wiped and questioned.
+#![tactic(auto)]
+
 mod cells;
 mod fill;
 mod finished;

@@ -30,7 +30,7 @@ pub(crate) fn lay_levels<E: Entry>(
     level: u8,
 )
     requires { ((0 < bottom → stride * (bottom + 1) ≤ length table.old)) × (top ≤ bottom) }
-    ensures { Summed E.Entry stride table.old top bottom (λ i j. prefix E.Entry (λ x. lifted level) i) table.new }
+    ensures { Summed E.Entry stride table.old top bottom (λ i j. prefix E.Entry (λ x. E.lifted level) i) table.new }
 {
     for y in top..bottom {
         lay_level(table, stride, y, level);

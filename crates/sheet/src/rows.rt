@@ -31,7 +31,7 @@ impl Sign {
 // Lays table row `y + 1` from table row `y` and the levels of a page row.
 pub(crate) fn lay_row<E: Entry>(table: &mut [E], y: usize, row: &[u8])
     requires { (length row.now + 1) * (y + 2) ≤ length table.old }
-    ensures { Filled E.Entry (length row.now + 1) table.old (y + 1) 0 (length row.now + 1) (λ i. joined (cell E.Entry (length row.now + 1) table.old i y) (prefix E.Entry (λ x. lifted (slice_index row.now x)) i)) table.new }
+    ensures { Filled E.Entry (length row.now + 1) table.old (y + 1) 0 (length row.now + 1) (λ i. E.joined (cell E.Entry (length row.now + 1) table.old i y) (prefix E.Entry (λ x. E.lifted (slice_index row.now x)) i)) table.new }
 {
     let stride = row.len() + 1;
     let mut before = E::zero();
@@ -47,7 +47,7 @@ pub(crate) fn lay_row<E: Entry>(table: &mut [E], y: usize, row: &[u8])
 // Lays table row `y + 1` from table row `y` and a page row of one level.
 pub(crate) fn lay_level<E: Entry>(table: &mut [E], stride: usize, y: usize, level: u8)
     requires { stride * (y + 2) ≤ length table.old }
-    ensures { Filled E.Entry stride table.old (y + 1) 0 stride (λ i. joined (cell E.Entry stride table.old i y) (prefix E.Entry (λ x. lifted level) i)) table.new }
+    ensures { Filled E.Entry stride table.old (y + 1) 0 stride (λ i. E.joined (cell E.Entry stride table.old i y) (prefix E.Entry (λ x. E.lifted level) i)) table.new }
 {
     let entry = E::lift(level);
     let mut sum = E::zero();
@@ -68,7 +68,7 @@ pub(crate) fn add_row<E: Entry>(
     sign: Sign,
 )
     requires { (stride * (y + 1) ≤ length table.old) × ((base < y) × (left ≤ stride)) }
-    ensures { Filled E.Entry stride table.old y left stride (λ i. joined (cell E.Entry stride table.old i y) (signed E.Entry sign (cell E.Entry stride table.old i base))) table.new }
+    ensures { Filled E.Entry stride table.old y left stride (λ i. E.joined (cell E.Entry stride table.old i y) (signed E.Entry sign (cell E.Entry stride table.old i base))) table.new }
 {
     for x in left..stride {
         let here = read(table, stride, x, y);
@@ -80,7 +80,7 @@ pub(crate) fn add_row<E: Entry>(
 // Joins one entry to row `y`, from column `left` on.
 fn shift_row<E: Entry>(table: &mut [E], stride: usize, left: usize, y: usize, change: E)
     requires { (stride * (y + 1) ≤ length table.old) × (left ≤ stride) }
-    ensures { Filled E.Entry stride table.old y left stride (λ i. joined (cell E.Entry stride table.old i y) change) table.new }
+    ensures { Filled E.Entry stride table.old y left stride (λ i. E.joined (cell E.Entry stride table.old i y) change) table.new }
 {
     for x in left..stride {
         let here = read(table, stride, x, y);
@@ -100,7 +100,7 @@ fn rewrite_columns<E: Entry>(
 )
     requires room { (stride * (y + 2) ≤ length table.old) × ((left + count < stride) × (first + count < 2 ^ 64)) }
     requires reaches { (n : ℕ) → n < count → Reaches fill (first + n) }
-    ensures { Filled E.Entry stride table.old (y + 1) (left + 1) (left + 1 + count) (λ i. joined (cell E.Entry stride table.old i y) (prefix_from E.Entry (less E.Entry (cell E.Entry stride table.old left (y + 1)) (cell E.Entry stride table.old left y)) (λ n. lifted (level_at fill.entry (first + n))) (i - left))) table.new }
+    ensures { Filled E.Entry stride table.old (y + 1) (left + 1) (left + 1 + count) (λ i. E.joined (cell E.Entry stride table.old i y) (prefix_from E.Entry (less E.Entry (cell E.Entry stride table.old left (y + 1)) (cell E.Entry stride table.old left y)) (λ n. E.lifted (level_at fill.entry (first + n))) (i - left))) table.new }
 {
     let before = read(table, stride, left, y);
     let mut sum = read(table, stride, left, y + 1).join(before.inverse());
@@ -122,7 +122,7 @@ pub(crate) fn rewrite_row<E: Entry>(
 )
     requires room { (stride * (y + 2) ≤ length table.old) × ((rect.left ≤ rect.right) × ((rect.right + 1 < stride) × (first + (rect.right + 1) < 2 ^ 64))) }
     requires reaches { (n : ℕ) → n < columns rect → Reaches fill (first + n) }
-    ensures { Rewritten E.Entry stride table.old rect.left (rect.right + 1) y (y + 1) (λ i j. lifted (level_at fill.entry (first + (i - rect.left)))) table.new }
+    ensures { Rewritten E.Entry stride table.old rect.left (rect.right + 1) y (y + 1) (λ i j. E.lifted (level_at fill.entry (first + (i - rect.left)))) table.new }
 {
     let last = rect.right + 1;
     let old = read(table, stride, last, y + 1);

@@ -1,4 +1,5 @@
 // Lays random edits on small sheets of every kind, and compares every entry of the table with a page that is kept beside the sheet.
+#![tactic(auto)]
 mod page;
 mod random;
 mod trial;

@@ -2,17 +2,17 @@ use Rattle.std.proofs.Common.{rules}
 use Rattle.scan.specs.Reading.{header_answer}
 use Rattle.scan.proofs.reader.header.Goals as goal
 
-pub returns-in-err-width : goal.returns-in-err-width
+pub returns-in_err-width : goal.returns-in_err-width
 unfolding header_answer
-returns-in-err-width c = search rules
+returns-in_err-width c = search rules
 
-pub returns-in-err-height : goal.returns-in-err-height
+pub returns-in_err-height : goal.returns-in_err-height
 unfolding header_answer
-returns-in-err-height c = search rules
+returns-in_err-height c = search rules
 
-pub returns-in-err-maxval : goal.returns-in-err-maxval
+pub returns-in_err-maxval : goal.returns-in_err-maxval
 unfolding header_answer
-returns-in-err-maxval c = search rules
+returns-in_err-maxval c = search rules
 
 pub returns : goal.returns
 unfolding header_answer

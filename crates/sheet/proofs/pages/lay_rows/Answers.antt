@@ -3,8 +3,8 @@ use Rattle.std.proofs.lemmas.List.{get_or-drop, get_or-take}
 use Rattle.sheet.proofs.PageRows.{page_more}
 use Rattle.sheet.proofs.pages.lay_rows.Goals as goal
 
-pub slice-bounds-lay_next-end : goal.slice-bounds-lay_next-end
-slice-bounds-lay_next-end g c =
+pub slice_bounds-lay_next-end : goal.slice_bounds-lay_next-end
+slice_bounds-lay_next-end g c =
     let y = c.loop-y.y in
     let w = c.args.width in
     let rows : (y + 1) * w ≤ c.args.height * w = mul-le-mul_right w (omega arith) in
