@@ -1,5 +1,6 @@
 // What lies about a pixel, and pages that are drawn pixel by pixel.
 #![tactic(auto)]
+
 mod cut;
 mod laws;
 mod neighbourhood;

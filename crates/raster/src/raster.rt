@@ -26,8 +26,8 @@ pub trait Raster {
 
 // Draws row `y` into the page.
 fn draw_row<R: Raster>(raster: &R, y: u16, page: &mut [u8])
-    requires { (y < tall raster.now) × (wide raster.now * tall raster.now ≤ length page.old) }
-    ensures { (old : List ℕ) → page.old ≡ laid (page_byte (wide raster.now) (byte raster.now)) (y * wide raster.now) old → page.new ≡ laid (page_byte (wide raster.now) (byte raster.now)) ((y + 1) * wide raster.now) old }
+    requires { (y < R.tall raster.now) × (R.wide raster.now * R.tall raster.now ≤ length page.old) }
+    ensures { (old : List ℕ) → page.old ≡ laid (page_byte (R.wide raster.now) (R.byte raster.now)) (y * R.wide raster.now) old → page.new ≡ laid (page_byte (R.wide raster.now) (R.byte raster.now)) ((y + 1) * R.wide raster.now) old }
 {
     let width = raster.width();
     let first = y as usize * width as usize;
@@ -37,8 +37,8 @@ fn draw_row<R: Raster>(raster: &R, y: u16, page: &mut [u8])
 }
 
 fn draw_rows<R: Raster>(raster: &R, page: &mut [u8])
-    requires { wide raster.now * tall raster.now ≤ length page.old }
-    ensures { page.new ≡ laid (page_byte (wide raster.now) (byte raster.now)) (wide raster.now * tall raster.now) page.old }
+    requires { R.wide raster.now * R.tall raster.now ≤ length page.old }
+    ensures { page.new ≡ laid (page_byte (R.wide raster.now) (R.byte raster.now)) (R.wide raster.now * R.tall raster.now) page.old }
 {
     for y in 0..raster.height() {
         draw_row(raster, y, page);
@@ -47,7 +47,7 @@ fn draw_rows<R: Raster>(raster: &R, page: &mut [u8])
 
 // How many bytes the picture takes, if the page has room for them.
 pub fn room<R: Raster>(raster: &R, page: &[u8]) -> Result<usize, Refusal>
-    ensures { told result ≡ room_answer (wide raster.now) (tall raster.now) (length page.now) }
+    ensures { told result ≡ room_answer (R.wide raster.now) (R.tall raster.now) (length page.now) }
 {
     let n = raster.width() as usize * raster.height() as usize;
     if page.len() < n {
@@ -58,7 +58,7 @@ pub fn room<R: Raster>(raster: &R, page: &[u8]) -> Result<usize, Refusal>
 
 // Draws the picture into the page, row after row, and answers how many bytes it has.
 pub fn draw<R: Raster>(raster: &R, page: &mut [u8]) -> Result<usize, Refusal>
-    ensures { Drawn (room_answer (wide raster.now) (tall raster.now) (length page.old)) (wide raster.now) (tall raster.now) (byte raster.now) result page.old page.new }
+    ensures { Drawn (room_answer (R.wide raster.now) (R.tall raster.now) (length page.old)) (R.wide raster.now) (R.tall raster.now) (R.byte raster.now) result page.old page.new }
 {
     let bytes = room(raster, page)?;
     draw_rows(raster, page);
