@@ -1,5 +1,6 @@
 // Lays random edits on small sheets, asks every question of them and filters them, and compares the answers with what is counted pixel by pixel on a page that is kept beside the sheet.
 #![tactic(auto)]
+
 mod asked;
 mod direct;
 mod filtered;

@@ -1,5 +1,6 @@
 // The five filters on ink sheets: median, erosion, dilation, opening and closing.
 #![tactic(auto)]
+
 mod laws;
 mod majority;
 mod morphology;

@@ -1,5 +1,6 @@
 // `plots` reads a scan file from standard input, and prints the sides of the sheet or why the scan is refused.
 #![tactic(auto)]
+
 mod input;
 mod outcome;
 mod survey;

@@ -1,5 +1,6 @@
 // Questions on a finished sheet, answered from corners of its table.
 #![tactic(auto)]
+
 mod inks;
 mod laterals;
 mod means;

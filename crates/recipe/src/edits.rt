@@ -60,7 +60,7 @@ impl<R: Placed> Recipe<R> {
 
     // One rectangle more. Answers how many are placed.
     pub fn add(&mut self, rectangle: R) -> Result<usize, Refusal>
-        ensures { PlacedAt (add_answer (lawful (around rectangle)) (count_of self.old)) (count_of self.old) (count_of self.old + 1) rectangle self.old result self.new }
+        ensures { PlacedAt (add_answer (lawful (R.around rectangle)) (count_of self.old)) (count_of self.old) (count_of self.old + 1) rectangle self.old result self.new }
     {
         if !is_lawful(rectangle.offsets()) {
             return Err(Refusal::Offsets);
@@ -76,7 +76,7 @@ impl<R: Placed> Recipe<R> {
 
     // Another rectangle at a place, from 0, that is taken. Answers how many are placed.
     pub fn replace(&mut self, place: usize, rectangle: R) -> Result<usize, Refusal>
-        ensures { PlacedAt (replace_answer (lawful (around rectangle)) place (count_of self.old)) place (count_of self.old) rectangle self.old result self.new }
+        ensures { PlacedAt (replace_answer (lawful (R.around rectangle)) place (count_of self.old)) place (count_of self.old) rectangle self.old result self.new }
     {
         if !is_lawful(rectangle.offsets()) {
             return Err(Refusal::Offsets);

@@ -1,5 +1,6 @@
 // Recipes: sixteen places for rectangles about a pixel, which an element or a kernel is made of.
 #![tactic(auto)]
+
 mod edits;
 mod offsets;
 mod places;

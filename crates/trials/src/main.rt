@@ -1,5 +1,6 @@
 // Lays random edits on small sheets of every kind, and compares every entry of the table with a page that is kept beside the sheet.
 #![tactic(auto)]
+
 mod page;
 mod random;
 mod trial;
