@@ -4,6 +4,8 @@ ghost use Rattle.std.specs.Prelude.{◌≤◌};
 use super::MAX_INPUT;
 use super::input::fill;
 use super::outcome::outcome_of;
+use std::alloc::AllocGlobal;
+use std::process::Abort;
 use std::test::*;
 
 const GOOD: [(&[u8], &str); 8] = [
@@ -47,10 +49,10 @@ const DAMAGED: [(&[u8], &str); 24] = [
     (b"P5 4096 4096 255 a", "refused 5 18 reader"),
 ];
 
-fn prints(rt: &HostRuntime, file: &[u8], line: &str) -> Result<(), Fail> {
+fn prints(rt: &(impl Abort + AllocGlobal), file: &[u8], line: &str) -> Result<(), Fail> {
     let outcome = outcome_of(rt.alloc(), file)?;
     let text = format!(in rt.alloc(); "{outcome}")?;
-    assert_eq!(text.as_str(), line);
+    assert_eq!(rt; text.as_str(), line);
     Ok(())
 }
 
@@ -81,7 +83,11 @@ fn long_file(from: usize) -> [u8; 16_385]
 }
 
 // What the program prints of an input that may be longer than what it reads.
-fn prints_of_input(rt: &HostRuntime, mut input: &[u8], line: &str) -> Result<(), Fail> {
+fn prints_of_input(
+    rt: &(impl Abort + AllocGlobal),
+    mut input: &[u8],
+    line: &str,
+) -> Result<(), Fail> {
     let mut buffer = [0; MAX_INPUT];
     let length = fill(&mut input, &mut buffer)?;
     prints(rt, &buffer[0..length], line)

@@ -1,6 +1,6 @@
 -- What is accepted was written so. Assumes nothing.
 use Rattle.std.proofs.Common.{◌≡◌, ℕ, ◌+◌, ◌-◌, ◌*◌, ◌<◌, ◌≤◌, true, false, ◌&&◌, eqb, ltb, leb, ◌⊎◌, List, [], ◌∷◌, ◌++◌, length, get_or, take, drop, sym, refl, ap, ◌∙◌, subst, ⊎_elim, append_assoc, one-add, arith}
-use Rattle.std.specs.List.{prefix_len, AllByRecursion as All}
+use Rattle.std.specs.List.{prefix_len, AllByRecursion}
 use Rattle.std.proofs.lemmas.Bool.{cases_Bool, eqb-true, ltb-true, leb-true, and_parts, cond-true, cond-false, false≢true, and_right}
 use Rattle.std.proofs.lemmas.List.{take-append-drop, length-take-le, length-take, length-drop, take-take, drop-drop, drop_more}
 use Rattle.std.proofs.lemmas.List.Sums.{prefix_len-le-length}
@@ -18,7 +18,7 @@ use Rattle.scan.proofs.GapSteps.{white_first, white_next, comment_opens, gap_ove
 abbrev GapFrom : GapState → List ℕ → Type 0
 GapFrom Start ys = Unit {0}
 GapFrom White ys = (b : ℕ) → white b ≡ true → Gap (b ∷ ys)
-GapFrom Comment ys = (text : List ℕ) × (gap : List ℕ) × (ys ≡ text ++ (10 ∷ gap)) × All (λ t. eqb t 10 ≡ false) text × Gap (10 ∷ gap)
+GapFrom Comment ys = (text : List ℕ) × (gap : List ℕ) × (ys ≡ text ++ (10 ∷ gap)) × AllByRecursion (λ t. eqb t 10 ≡ false) text × Gap (10 ∷ gap)
 
 -- one byte more, taken as the reader counts it
 taken : (s : GapState) (c : ℕ) (cs : List ℕ) (t : GapState) → gap_length s (c ∷ cs) ≡ 1 + gap_length t cs → take (gap_length s (c ∷ cs)) (c ∷ cs) ≡ c ∷ take (gap_length t cs) cs
@@ -57,10 +57,10 @@ gap_form (b ∷ bs) w l =
     let on = white_first b bs is in
     subst Gap (sym (taken Start b bs White on)) (gap_from White bs (omega arith) b is)
 
-digits_each : (xs : List ℕ) → All (λ d. digit d ≡ true) (take (prefix_len digit xs) xs)
+digits_each : (xs : List ℕ) → AllByRecursion (λ d. digit d ≡ true) (take (prefix_len digit xs) xs)
 digits_each [] = tt
 digits_each (x ∷ xs) =
-    let P : ℕ → Type 0 = λ k. All (λ d. digit d ≡ true) (take k (x ∷ xs)) in
+    let P : ℕ → Type 0 = λ k. AllByRecursion (λ d. digit d ≡ true) (take k (x ∷ xs)) in
     ⊎_elim
     (λ e. subst P (sym (cond-true (digit x) (1 + prefix_len digit xs) 0 e ∙ one-add (prefix_len digit xs))) (e, digits_each xs))
     (λ e. subst P (sym (cond-false (digit x) (1 + prefix_len digit xs) 0 e)) tt)

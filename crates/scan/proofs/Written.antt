@@ -1,6 +1,6 @@
 -- What is written is read back. Assumes nothing.
 use Rattle.std.proofs.Common.{◌≡◌, ℕ, zero, suc, ◌+◌, ◌-◌, ◌*◌, ◌<◌, ◌≤◌, true, false, ◌&&◌, eqb, ltb, leb, List, [], ◌∷◌, ◌++◌, length, take, drop, sym, refl, ap, ◌∙◌, append_assoc, arith}
-use Rattle.std.specs.List.{prefix_len, AllByRecursion as All}
+use Rattle.std.specs.List.{prefix_len, AllByRecursion}
 use Rattle.std.proofs.lemmas.List.{drop_at, drop-drop, take_at, length-append, length-drop, take-take}
 use Rattle.std.proofs.lemmas.Bool.{lt-ltb, le-leb, eq-eqb, and_from, cond-true}
 use Rattle.std.proofs.lemmas.Bool.Decides.{nat_tests}
@@ -13,7 +13,7 @@ use Rattle.scan.proofs.Numbers.{white_at_drop, number_from_parts}
 use Rattle.scan.proofs.GapSteps.{white_first, white_next, comment_opens, gap_over, comment_closes, comment_goes_on}
 
 -- a comment goes on up to its byte 10
-in_comment : (text gap : List ℕ) → All (λ t. eqb t 10 ≡ false) text → gap_length Comment (text ++ (10 ∷ gap)) ≡ length text + gap_length White (10 ∷ gap)
+in_comment : (text gap : List ℕ) → AllByRecursion (λ t. eqb t 10 ≡ false) text → gap_length Comment (text ++ (10 ∷ gap)) ≡ length text + gap_length White (10 ∷ gap)
 in_comment [] gap a = omega (arith, comment_closes 10 gap refl, white_next 10 gap refl)
 in_comment (t ∷ text) gap a = omega (arith, comment_goes_on t (text ++ (10 ∷ gap)) a.0, in_comment text gap a.1)
 
@@ -35,7 +35,7 @@ gap_written xs (comment b text g w t r) e =
     let ys : List ℕ = 35 ∷ ((text ++ (10 ∷ g)) ++ xs) in white_first b ys w ∙ sym (white_next b ys w) ∙ gap_after_white xs (comment b text g w t r) e
 
 -- digits end a gap
-digits_end_gap : (ds xs : List ℕ) → All (λ d. digit d ≡ true) ds → 0 < length ds → gap_length White (ds ++ xs) ≡ 0
+digits_end_gap : (ds xs : List ℕ) → AllByRecursion (λ d. digit d ≡ true) ds → 0 < length ds → gap_length White (ds ++ xs) ≡ 0
 digits_end_gap [] xs a l = absurd (omega arith)
 digits_end_gap (d ∷ ds) xs a l =
     let is = a.0 in
@@ -57,7 +57,7 @@ no_digit_first xs zero w = refl
 no_digit_first [] (suc k) w = refl
 no_digit_first (x ∷ xs) (suc k) w = grind (arith, nat_tests)
 
-digits_counted_in : (ds : List ℕ) (k : ℕ) (xs : List ℕ) → All (λ d. digit d ≡ true) ds → length ds ≤ k → white_at xs 0 ≡ true → prefix_len digit (take k (ds ++ xs)) ≡ length ds
+digits_counted_in : (ds : List ℕ) (k : ℕ) (xs : List ℕ) → AllByRecursion (λ d. digit d ≡ true) ds → length ds ≤ k → white_at xs 0 ≡ true → prefix_len digit (take k (ds ++ xs)) ≡ length ds
 digits_counted_in [] k xs a l w = no_digit_first xs k w
 digits_counted_in (d ∷ ds) zero xs a l w = absurd (omega arith)
 digits_counted_in (d ∷ ds) (suc k) xs a l w = rw a.0 (let rest : prefix_len digit (take k (ds ++ xs)) ≡ length ds = digits_counted_in ds k xs a.1 (omega arith) w in omega arith)

@@ -1,6 +1,6 @@
 -- A scan file as its writer makes it, part by part, and the law that joins it with the reading. Assumes nothing.
 use Rattle.std.specs.Prelude.{◌≡◌, ℕ, ◌*◌, ◌<◌, ◌≤◌, true, false, List, [], ◌∷◌, ◌++◌, length, ◌==◌}
-use Rattle.std.specs.List.{AllByRecursion as All}
+use Rattle.std.specs.List.{AllByRecursion}
 use Rattle.refusal.specs.Answers.{accepted}
 use Rattle.scan.specs.Reading.{Image, white, digit, value, scan_answer}
 
@@ -8,11 +8,11 @@ use Rattle.scan.specs.Reading.{Image, white, digit, value, scan_answer}
 pub data Gap : List ℕ → Type 0 where
   last : (b : ℕ) → white b ≡ true → Gap (b ∷ [])
   more : (b : ℕ) (gap : List ℕ) → white b ≡ true → Gap gap → Gap (b ∷ gap)
-  comment : (b : ℕ) (text gap : List ℕ) → white b ≡ true → All (λ t. (t == 10) ≡ false) text → Gap (10 ∷ gap) → Gap (b ∷ (35 ∷ (text ++ (10 ∷ gap))))
+  comment : (b : ℕ) (text gap : List ℕ) → white b ≡ true → AllByRecursion (λ t. (t == 10) ≡ false) text → Gap (10 ∷ gap) → Gap (b ∷ (35 ∷ (text ++ (10 ∷ gap))))
 
 -- 1 to 5 digits that write n
 pub record Decimal (digits : List ℕ) (n : ℕ) : Type 0 where
-  pub each : All (λ d. digit d ≡ true) digits
+  pub each : AllByRecursion (λ d. digit d ≡ true) digits
   pub some : 0 < length digits
   pub few : length digits ≤ 5
   pub worth : value digits ≡ n
