@@ -9,11 +9,11 @@ use Rattle.entry.specs.Kinds.{ink}
 use Rattle.entry.specs.declared.kinds.ink.Ink.{Ink}
 use Rattle.raster.specs.Drawn.{laid, page_byte, room_answer, Drawn}
 use Rattle.raster.specs.declared.offsets.Offsets.{Offsets}
-use Rattle.refusal.specs.Answers.{accepted, number_of, told}
+use Rattle.refusal.specs.Answers.{accepted, number_of}
 use Rattle.refusal.specs.declared.Refusal.{Refusal}
 use Rattle.refusal.proofs.Accepted.{accepted_same, both_accepted, never, test_passed}
 use Rattle.sheet.specs.Page.{fits_answer}
-use Rattle.sheet.specs.PageTable.{PageLaid, PageTable}
+use Rattle.sheet.specs.PageTable.{PageTable}
 use Rattle.sheet.specs.Sheet.{table_size}
 use Rattle.sheet.specs.View.{view_answer}
 use Rattle.filters.specs.declared.step.Step.{Step}

@@ -1,5 +1,5 @@
 -- The filters from corners are those of the pixels. Assumes nothing.
-use Rattle.std.proofs.Common.{◌≡◌, ℕ, ◌+◌, ◌*◌, ◌<◌, ◌≤◌, min, Bool, true, false, cond, not, ◌&&◌, ◌||◌, eqb, ltb, leb, ◌⊎◌, List, [], ◌∷◌, ℤ, pos, ◌+ℤ◌, neg_ℤ, Decides, sym, refl, ap, ◌∙◌, inl, inr, ⊎_elim, arith}
+use Rattle.std.proofs.Common.{◌≡◌, ℕ, ◌*◌, ◌<◌, ◌≤◌, min, Bool, true, false, cond, not, ◌&&◌, ◌||◌, eqb, ltb, List, [], ◌∷◌, ℤ, pos, ◌+ℤ◌, neg_ℤ, Decides, sym, refl, ap, ◌∙◌, inl, inr, ⊎_elim, arith}
 use lib.Signed.{le_z}
 use Rattle.std.proofs.lemmas.Nat.{mul-le}
 use Rattle.std.proofs.lemmas.Int.{ints}
@@ -19,7 +19,7 @@ use Rattle.sheet.specs.Sheet.{Holds}
 use Rattle.filters.specs.declared.step.Step.{Step}
 use Rattle.filters.specs.declared.step.Step.TheVariants.{Erode, Dilate}
 use Rattle.filters.specs.Filters.{is_ink, ink_byte, reaches, erosion_at, dilation_at}
-use Rattle.filters.specs.Steps.{majority, settles, settled, step_byte, stepped, MedianLaw, StepLaw}
+use Rattle.filters.specs.Steps.{majority, settled, step_byte, stepped, MedianLaw, StepLaw}
 use Rattle.filters.proofs.Adjunction.{implies, implied}
 use Rattle.filters.proofs.Frames.{Somewhere, everywhere_decides, somewhere_decides, count_le, count_tight, count_some, some_count}
 

@@ -1,9 +1,8 @@
 -- One step after the other. Assumes nothing.
-use Rattle.std.proofs.Common.{◌≡◌, ℕ, ◌+◌, ◌*◌, ◌<◌, ◌≤◌, Bool, true, false, List, map, get_or, sym, ap, ◌∙◌, subst, mul_comm, arith}
+use Rattle.std.proofs.Common.{◌≡◌, ℕ, ◌+◌, ◌*◌, ◌<◌, Bool, true, false, List, map, sym, ◌∙◌, subst, arith}
 use Rattle.std.specs.List.{range_with_len}
 use Rattle.std.proofs.lemmas.Nat.{mul-add-lt}
 use Rattle.std.proofs.lemmas.List.FromFn.{get_or-map-range_with_len}
-use Rattle.entry.specs.declared.kinds.ink.Ink.{Ink}
 use Rattle.raster.specs.Drawn.{page_byte}
 use Rattle.raster.specs.declared.offsets.Offsets.{Offsets}
 use Rattle.raster.proofs.Pages.{byte_at}

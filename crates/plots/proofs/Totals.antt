@@ -9,7 +9,7 @@ use Rattle.entry.specs.Sums.{plain_sum, limit_of}
 use Rattle.entry.specs.declared.word.whole.Whole.{Whole}
 use Rattle.entry.proofs.ModularSums.{sum_same}
 use Rattle.questions.specs.Totals.{within_limit, total_answer, plain_total, TotalLaw}
-use Rattle.refusal.specs.Answers.{Answer, accepted, refused, and_then, ensuring}
+use Rattle.refusal.specs.Answers.{Answer, accepted, and_then, ensuring}
 use Rattle.refusal.proofs.Accepted.{accepted_same, both_accepted, test_passed}
 use Rattle.scan.specs.Format.{Side}
 use Rattle.sheet.specs.declared.rectangle.Rectangle.{Rectangle}

@@ -1,5 +1,5 @@
 -- Totals are exact up to the limit of their words. Assumes nothing.
-use Rattle.std.proofs.Common.{◌≡◌, ℕ, ◌+◌, ◌-◌, ◌/◌, ◌%◌, ◌<◌, ◌≤◌, true, leb, List, sym, ap, ◌∙◌, inl, inr, mod-lt, mul_comm, arith}
+use Rattle.std.proofs.Common.{◌≡◌, ℕ, ◌+◌, ◌/◌, ◌%◌, ◌<◌, ◌≤◌, true, leb, List, sym, ap, ◌∙◌, inl, inr, mod-lt, mul_comm, arith}
 use Rattle.std.proofs.lemmas.Nat.{div_below}
 use Rattle.std.proofs.lemmas.Bool.{cases_Bool, cond-false, leb-true}
 use Rattle.entry.specs.Exactness.{Exact}

@@ -1,15 +1,13 @@
 -- Row and column totals are plain sums. Assumes nothing.
-use Rattle.std.proofs.Common.{◌≡◌, ℕ, ◌+◌, ◌-◌, ◌*◌, ◌<◌, ◌≤◌, min, true, List, sym, refl, ap, ◌∙◌, add-zero, arith}
+use Rattle.std.proofs.Common.{◌≡◌, ℕ, ◌+◌, ◌*◌, ◌<◌, ◌≤◌, List, refl, ap, ◌∙◌, add-zero, arith}
 use Rattle.entry.specs.Exactness.{Exact}
 use Rattle.entry.specs.Group.{Group}
 use Rattle.entry.specs.Sums.{prefix, plain_sum, limit_of}
 use Rattle.entry.specs.declared.kind.entry.Entry.{Ghosts}
 use Rattle.entry.specs.declared.kind.modular.Modular as modular
-use Rattle.raster.specs.Region.{Bytes}
-use Rattle.sheet.specs.declared.rectangle.Rectangle.{Rectangle}
 use Rattle.sheet.specs.declared.span.Span.{Span}
 use Rattle.sheet.specs.Cut.{cut_start, cut_length, cut_sum}
-use Rattle.sheet.specs.Page.{Levels, columns, lines, on_sheet}
+use Rattle.sheet.specs.Page.{Levels, columns, lines}
 use Rattle.sheet.specs.Sheet.{Holds}
 use Rattle.sheet.specs.Table.{corner_sum}
 use Rattle.sheet.proofs.Cuts.{cut_inside}

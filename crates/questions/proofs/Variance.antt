@@ -1,5 +1,5 @@
 -- Spreads are exact and not negative. Assumes nothing.
-use Rattle.std.proofs.Common.{◌≡◌, ℕ, zero, suc, ◌+◌, ◌-◌, ◌*◌, ◌/◌, ◌%◌, ◌^◌, ◌<◌, ◌≤◌, min, true, List, sym, refl, ap, ◌∙◌, subst, inl, inr, suc-mul, mul_comm, add-mul, mul-zero, mul-add, arith}
+use Rattle.std.proofs.Common.{◌≡◌, ℕ, zero, suc, ◌+◌, ◌-◌, ◌*◌, ◌/◌, ◌%◌, ◌≤◌, true, List, sym, refl, ap, ◌∙◌, subst, inl, inr, suc-mul, mul_comm, add-mul, mul-zero, mul-add, arith}
 use Rattle.std.proofs.lemmas.Nat.{mul-le}
 use Rattle.std.proofs.lemmas.Bool.{cases_Bool, cases_lt, cond-false}
 use Rattle.entry.specs.Exactness.{Exact}

@@ -1,11 +1,10 @@
 -- Rectangles about a pixel, cut at the frame. Assumes nothing.
-use Rattle.std.proofs.Common.{◌≡◌, ℕ, ◌+◌, ◌<◌, Bool, cond, ◌&&◌, ltb, leb, List, ℤ, pos, negsuc, ◌+ℤ◌, sym, refl, ap, ◌∙◌, arith}
+use Rattle.std.proofs.Common.{◌≡◌, ℕ, cond, ltb, leb, ℤ, pos, negsuc, ◌+ℤ◌, refl, ap, ◌∙◌, arith}
 use lib.Signed.{le_z}
 use Rattle.std.proofs.lemmas.Bool.Decides.{nat_tests}
 use Rattle.entry.specs.Group.{Group}
 use Rattle.entry.specs.declared.kind.entry.Entry.{Ghosts}
 use Rattle.sheet.specs.Cut.{in_span, in_region}
-use Rattle.sheet.specs.Page.{Levels}
 use Rattle.entry.proofs.ModularSums.{sum_same}
 use Rattle.sheet.proofs.Cuts.{cut_law_lem}
 use Rattle.sheet.proofs.Prefixes.{corner_same}

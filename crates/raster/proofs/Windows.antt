@@ -1,5 +1,5 @@
 -- Totals of windows are exact. Assumes nothing.
-use Rattle.std.proofs.Common.{◌≡◌, ℕ, ◌+◌, ◌-◌, ◌*◌, ◌%◌, ◌^◌, ◌<◌, ◌≤◌, Bool, true, false, cond, List, pos, ◌+ℤ◌, neg_ℤ, sym, refl, ap, ◌∙◌, add-zero, mod-eq_of_lt, mul_assoc, mul_comm, arith}
+use Rattle.std.proofs.Common.{◌≡◌, ℕ, ◌+◌, ◌*◌, ◌^◌, ◌<◌, ◌≤◌, Bool, true, false, cond, List, pos, neg_ℤ, sym, ap, ◌∙◌, add-zero, mod-eq_of_lt, mul_assoc, mul_comm, arith}
 use Rattle.std.proofs.lemmas.Nat.{mul-le}
 use Rattle.std.proofs.lemmas.Int.{ints}
 use Rattle.std.proofs.lemmas.Bool.{and_from}
@@ -9,14 +9,13 @@ use Rattle.entry.specs.Sums.{prefix, plain_sum, limit_of}
 use Rattle.entry.specs.declared.kind.entry.Entry.{Ghosts}
 use Rattle.entry.specs.declared.kind.modular.Modular as modular
 use Rattle.entry.proofs.ModularSums.{limit_fits, sum_bounded, sum_part, sum_same}
-use Rattle.sheet.specs.Cut.{cut_start, cut_length, frame_sum, count_pixels, join_pixels}
+use Rattle.sheet.specs.Cut.{cut_start, cut_length, frame_sum, join_pixels}
 use Rattle.sheet.specs.Page.{Levels}
 use Rattle.sheet.specs.Sheet.{Holds}
 use Rattle.sheet.specs.Table.{corner_sum}
 use Rattle.sheet.proofs.Cuts.{cut_inside}
-use Rattle.raster.specs.declared.offsets.Offsets.{Offsets}
 use Rattle.raster.specs.declared.offsets.Window.{Window}
-use Rattle.raster.specs.Region.{between, covers, columns_at, rows_at, cut_sum_at, cut_area_at, window_offsets, point, window_byte, window_total, window_count, Bytes, WindowLaw}
+use Rattle.raster.specs.Region.{between, covers, columns_at, rows_at, cut_sum_at, window_offsets, point, window_total, window_count, Bytes, WindowLaw}
 use Rattle.raster.proofs.Regions.{region_law_lem}
 
 module _ {E : Type 0} {k : Ghosts E} {m : modular.Ghosts E} (exact : Exact k m) where

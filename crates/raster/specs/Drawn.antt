@@ -1,5 +1,5 @@
 -- Pages of bytes, drawn row after row into lent memory. Assumes nothing.
-use Rattle.std.specs.Prelude.{◌≡◌, ℕ, ◌*◌, ◌/◌, ◌%◌, List, ◌++◌, map, length, drop, Result, MatchResult, nat_le}
+use Rattle.std.specs.Prelude.{◌≡◌, ℕ, ◌*◌, ◌/◌, ◌%◌, List, ◌++◌, map, drop, Result, MatchResult, nat_le}
 use Rattle.std.specs.List.{range_with_len}
 use Rattle.refusal.specs.Answers.{Answer, accepted, ensuring, told}
 use Rattle.refusal.specs.declared.Refusal.{Refusal}

@@ -7,7 +7,7 @@ use Rattle.std.proofs.lemmas.Bool.Decides.{nat_tests}
 use Rattle.scan.specs.declared.gap.GapState.TheVariants.{Start, White, Comment}
 use Rattle.refusal.specs.Answers.{accepted, and_then}
 use Rattle.scan.specs.declared.numeral.Numeral.{Numeral}
-use Rattle.scan.specs.Reading.{Image, white, digit, value, white_at, gap_length, digits_of, numeral_answer, number_answer, side_answer, maxval_answer, levels_answer, header_answer, magic, scan_answer}
+use Rattle.scan.specs.Reading.{Image, white, digit, white_at, gap_length, digits_of, numeral_answer, number_answer, side_answer, maxval_answer, levels_answer, header_answer, magic, scan_answer}
 use Rattle.scan.specs.Format.{Gap, last, more, comment, Decimal, Number, Side, Written}
 use Rattle.scan.proofs.Numbers.{white_at_drop, number_from_parts}
 use Rattle.scan.proofs.GapSteps.{white_first, white_next, comment_opens, gap_over, comment_closes, comment_goes_on}

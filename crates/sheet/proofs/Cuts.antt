@@ -1,5 +1,5 @@
 -- Regions cut at the frame. Assumes nothing.
-use Rattle.std.proofs.Common.{◌≡◌, ℕ, zero, suc, ◌+◌, ◌-◌, ◌*◌, ◌<◌, ◌≤◌, min, Bool, true, false, cond, ◌&&◌, ltb, leb, List, sym, refl, ap, ◌∙◌, inl, inr, mul-zero, mul-one, mul-add, arith}
+use Rattle.std.proofs.Common.{◌≡◌, ℕ, zero, suc, ◌+◌, ◌-◌, ◌*◌, ◌<◌, ◌≤◌, Bool, true, false, cond, ◌&&◌, ltb, List, sym, refl, ap, ◌∙◌, inl, inr, mul-zero, mul-one, mul-add, arith}
 use Rattle.std.proofs.lemmas.Bool.{and_parts, cases_Bool, cond-false, cond-true, ltb-true}
 use Rattle.std.proofs.lemmas.Bool.Decides.{nat_tests}
 use Rattle.entry.specs.Group.{Group}
@@ -7,10 +7,10 @@ use Rattle.entry.specs.Sums.{prefix, plain_sum}
 use Rattle.entry.specs.declared.kind.entry.Entry.{Ghosts}
 use Rattle.entry.proofs.ModularSums.{sum_same, sum_none}
 use Rattle.sheet.specs.declared.span.Span.{Span}
-use Rattle.sheet.specs.Cut.{in_span, cut_end, cut_start, cut_length, in_region, cut_area, cut_sum, frame_sum, count_pixels, join_pixels, CutLaw}
+use Rattle.sheet.specs.Cut.{in_span, cut_end, cut_start, cut_length, in_region, cut_area, cut_sum, count_pixels, CutLaw}
 use Rattle.sheet.specs.Page.{Levels}
 use Rattle.sheet.specs.Sheet.{Holds, corners}
-use Rattle.sheet.specs.Table.{cell, corner_sum}
+use Rattle.sheet.specs.Table.{corner_sum}
 use Rattle.sheet.proofs.FourCorners.{corners_read}
 use Rattle.sheet.proofs.Prefixes.{prefix_same, prefix_split, prefix_none, corners_inside}
 

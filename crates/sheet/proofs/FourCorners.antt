@@ -8,7 +8,7 @@ use Rattle.sheet.specs.declared.rectangle.Rectangle.{Rectangle}
 use Rattle.sheet.specs.Page.{Levels, on_sheet, columns, lines}
 use Rattle.sheet.specs.Sheet.{Holds, corners, four_corners, sum_answer, reading, level_sum, SumLaw}
 use Rattle.sheet.specs.Table.{cell, corner_sum}
-use Rattle.sheet.proofs.Prefixes.{corners_inside, four_corners_lem}
+use Rattle.sheet.proofs.Prefixes.{four_corners_lem}
 
 module _ {E : Type 0} {k : Ghosts E} (w h : ℕ) (p : Levels) (memory : List E) (holds : Holds k w h h p memory) where
   -- corners of the table are sums of levels

@@ -1,4 +1,4 @@
-use Rattle.std.proofs.Common.{◌≡◌, ◌+◌, ◌*◌, sym, refl, ap, mul_comm, zero-mul, arith}
+use Rattle.std.proofs.Common.{◌≡◌, ◌*◌, sym, refl, ap, mul_comm, zero-mul, arith}
 use Rattle.raster.specs.Drawn.{page_byte}
 use Rattle.raster.proofs.Pages.{laid_to}
 use Rattle.raster.proofs.raster.draw_rows.Goals as goal
