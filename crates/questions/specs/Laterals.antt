@@ -34,7 +34,7 @@ strip_total k m width height memory strips r i = m.number (cut_sum k width heigh
 
 -- A rectangle off the sheet comes before lists that are too short. Accepted, it is how many numbers are written in all.
 abbrev pub lateral_answer : (width height : ℕ) → Rectangle → (rows columns : ℕ) → Answer ℕ
-lateral_answer width height r rowRoom columnRoom = ensuring (on_sheet width height r) 21 0 (ensuring (nat_le (lines r) rowRoom && nat_le (columns r) columnRoom) 13 0 (accepted (lines r + columns r)))
+lateral_answer width height r row_room column_room = ensuring (on_sheet width height r) 21 0 (ensuring (nat_le (lines r) row_room && nat_le (columns r) column_room) 13 0 (accepted (lines r + columns r)))
 
 -- the totals stand in front of both lists and the rest is as it was; a refusal changes neither
 pub record LateralsLaid {E : Type 0} (k : entry.Ghosts E) (m : modular.Ghosts E) (width height : ℕ) (memory : List E) (rect : Rectangle) (r : Result ℕ Refusal) (rows cols rows' cols' : List ℕ) : Type 0 where
