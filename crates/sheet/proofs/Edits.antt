@@ -9,9 +9,10 @@ use Rattle.sheet.specs.declared.fill.Fill.{Fill}
 use Rattle.sheet.specs.declared.rectangle.Rectangle.{Rectangle}
 use Rattle.sheet.specs.declared.rows.Sign.TheVariants.{Plus, Minus}
 use Rattle.sheet.specs.Fill.{level_at}
-use Rattle.sheet.specs.Page.{Levels, columns, covers, overlaid}
-use Rattle.sheet.specs.Sheet.{Past, Renewed, Carried, Laid, OnTable}
+use Rattle.sheet.specs.Page.{Levels, columns, covers, on_sheet, overlaid}
+use Rattle.sheet.specs.Sheet.{Past, Renewed, Carried, Laid}
 use Rattle.sheet.specs.Table.{cell, corner_sum, less, prefix_from, Added, Rewritten, TableOf}
+use Rattle.sheet.proofs.FourCorners.{on_parts}
 use Rattle.sheet.proofs.Prefixes.{prefix_same, corner_same, corner_row, less_left, shifted, prefix_split, from_prefix, corner_columns, corner_rows}
 use Rattle.sheet.proofs.Tables.{past_kept}
 
@@ -149,10 +150,12 @@ module _ {E : Type 0} {k : Ghosts E} (laws : Group k) (w h : ℕ) (r : Rectangle
     }
 
 -- The rows below lose what the rectangle's last row has, the rectangle is laid, and the rows below get that row back.
-pub edit_law : {E : Type 0} {k : Ghosts E} → Group k → (w h n : ℕ) (r : Rectangle) (fill : Fill) (t0 t1 t2 t3 : List E) → OnTable w h r n →
-    Carried k w h r Minus t0 t1 → Laid k w r fill t1 t2 → Carried k w h r Plus t2 t3 → Renewed k w h h h (overlaid r (level_at fill)) t0 t3
+pub edit_law : {E : Type 0} {k : Ghosts E} → Group k → (w h : ℕ) (r : Rectangle) (fill : Fill) (t0 t1 t2 t3 : List E) → on_sheet w h r ≡ true →
+    Carried k w h r Minus t0 t1 → Laid k w (record { start = r.left; end = r.right + 1 }) (record { start = r.top; end = r.bottom + 1 }) fill t1 t2 → Carried k w h r Plus t2 t3 → Renewed k w h h h (overlaid r (level_at fill)) t0 t3
 unfolding Renewed
-edit_law laws w h n r fill t0 t1 t2 t3 on p1 p2 p3 = record {
-  past = edit_past laws w h r (level_at fill) t0 t1 t2 t3 on.across on.down on.right on.bottom p1.rows p2.rows p3.rows;
-  table = λ p was some. edit_table laws w h r (level_at fill) t0 t1 t2 t3 on.across on.down on.right on.bottom p1.rows p2.rows p3.rows p (was some);
-}
+edit_law laws w h r fill t0 t1 t2 t3 is p1 p2 p3 =
+    let on = on_parts w h r is in
+    record {
+      past = edit_past laws w h r (level_at fill) t0 t1 t2 t3 on.0 on.1 on.2 on.3 p1.rows p2.rows p3.rows;
+      table = λ p was some. edit_table laws w h r (level_at fill) t0 t1 t2 t3 on.0 on.1 on.2 on.3 p1.rows p2.rows p3.rows p (was some);
+    }

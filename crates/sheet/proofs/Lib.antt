@@ -1,6 +1,6 @@
 pub mod Places
+pub mod Parts
 pub mod Prefixes
-pub mod Fills
 pub mod RowSteps
 pub mod Tables
 pub mod Edits
@@ -9,4 +9,3 @@ pub mod Laws
 pub mod FourCorners
 pub mod Cuts
 pub mod Runs
-pub mod PageRows

@@ -3,13 +3,13 @@ use Rattle.std.proofs.Common.{◌≡◌, ℕ, ◌+◌, ◌-◌, ◌<◌, ◌≤�
 use Rattle.std.proofs.lemmas.Bool.{cases_lt}
 use Rattle.entry.specs.declared.kind.entry.Entry.{Ghosts}
 use Rattle.sheet.specs.declared.rows.Sign.{Sign}
-use Rattle.sheet.specs.Table.{cell, less, signed, prefix_from, Filled, Summed, Added, Rewritten}
+use Rattle.sheet.specs.Table.{cell, less, signed, prefix_from, Filled, Added, Rewritten}
 use Rattle.sheet.proofs.Prefixes.{from_same}
 
 -- one row of levels: the columns of the rectangle, and then those right of it
 module _ {E : Type 0} (k : Ghosts E) (s y left right : ℕ) (t0 t1 t2 : List E) (h : ℕ → E) (change : E) (f : ℕ → ℕ → E)
     (wide : left < right) (on : right < s)
-    (p1 : Filled k s t0 (y + 1) (left + 1) (left + 1 + (right - left)) (λ i. k.joined (cell k s t0 i y) (prefix_from k (less k (cell k s t0 left (y + 1)) (cell k s t0 left y)) h (i - left))) t1)
+    (p1 : Filled k s t0 (y + 1) (left + 1) (right + 1) (λ i. k.joined (cell k s t0 i y) (prefix_from k (less k (cell k s t0 left (y + 1)) (cell k s t0 left y)) h (i - left))) t1)
     (is : change ≡ less k (cell k s t1 right (y + 1)) (cell k s t0 right (y + 1)))
     (p2 : Filled k s t1 (y + 1) (right + 1) s (λ i. k.joined (cell k s t1 i (y + 1)) change) t2)
     (same : (n : ℕ) → h n ≡ f (left + n) y) where
@@ -51,26 +51,8 @@ module _ {E : Type 0} (k : Ghosts E) (s y left right : ℕ) (t0 t1 t2 : List E) 
     ];
   }
 
--- rows joined to the row above, one more each time
+-- rows, one more each time
 module _ {E : Type 0} (k : Ghosts E) (s : ℕ) (before : List E) where
-  pub summed_none : (y : ℕ) (h : ℕ → ℕ → E) → Summed k s before y y h before
-  summed_none y h = record { long = refl; rows = λ i j hi low high. absurd (omega arith); others = λ i j hi out. refl }
-
-  pub summed_more : (top y : ℕ) (h : ℕ → ℕ → E) (after next : List E) (f : ℕ → E) → top ≤ y → Summed k s before top y h after → Filled k s after (y + 1) 0 s f next → ((i : ℕ) → i < s → f i ≡ k.joined (cell k s after i y) (h i y)) → Summed k s before top (y + 1) h next
-  summed_more top y h after next f low so row is = record {
-    long = row.long ∙ so.long;
-    rows = λ i j hi lo up. elim (cases_lt j y) [
-      | inl lt ↦ row.others i (j + 1) hi (inr (inr (λ e. omega arith))) ∙ so.rows i j hi lo lt ∙ ap (λ v. k.joined v (h i j)) (sym (row.others i j hi (inr (inr (λ e. omega arith)))))
-      | inr ge ↦
-          let e : y ≡ j = omega arith in
-          subst (λ m. cell k s next i (m + 1) ≡ k.joined (cell k s next i m) (h i m)) e (row.here i hi (omega arith) hi ∙ is i hi ∙ ap (λ v. k.joined v (h i y)) (sym (row.others i y hi (inr (inr (λ e. omega arith))))))
-    ];
-    others = λ i j hi out. elim out [
-      | inl l ↦ row.others i j hi (inr (inr (λ e. omega arith))) ∙ so.others i j hi (inl l)
-      | inr r ↦ row.others i j hi (inr (inr (λ e. omega arith))) ∙ so.others i j hi (inr (omega arith))
-    ];
-  }
-
   -- one row joined to each of several
   pub added_none : (left top base : ℕ) (sign : Sign) → Added k s before left top top base sign before
   added_none left top base sign = record { long = refl; rows = λ i j hi far low high. absurd (omega arith); others = λ i j hi out. refl }

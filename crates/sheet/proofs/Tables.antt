@@ -7,12 +7,18 @@ use Rattle.entry.specs.Sums.{prefix}
 use Rattle.entry.specs.declared.kind.entry.Entry.{Ghosts}
 use Rattle.sheet.specs.Page.{Levels}
 use Rattle.sheet.specs.Sheet.{table_size, Past}
-use Rattle.sheet.specs.Table.{cell, corner_sum, Summed, TableOf}
+use Rattle.sheet.specs.Table.{cell, corner_sum, TableOf}
 use Rattle.sheet.proofs.Prefixes.{corner_same}
 
 module _ {E : Type 0} (k : Ghosts E) where
+  -- In `after` each row from top + 1 to bottom is the row above it joined with what h has for that row above; the other rows are those of `before`.
+  pub record Summed (stride : ℕ) (before : List E) (top bottom : ℕ) (h : ℕ → ℕ → E) (after : List E) : Type 0 where
+    pub long : length after ≡ length before
+    pub rows : (i j : ℕ) → i < stride → top ≤ j → j < bottom → cell k stride after i (j + 1) ≡ k.joined (cell k stride after i j) (h i j)
+    pub others : (i j : ℕ) → i < stride → (j ≤ top) ⊎ (bottom < j) → cell k stride after i j ≡ cell k stride before i j
+
   -- rows that are joined to the row above, on top of rows that are right, are right
-  sums_stand : (s top bottom : ℕ) (before after : List E) (h e : ℕ → ℕ → E) → Summed k s before top bottom h after →
+  sums_stand : (s top bottom : ℕ) (before after : List E) (h e : ℕ → ℕ → E) → Summed s before top bottom h after →
       ((x y : ℕ) → x < s → y ≤ top → cell k s before x y ≡ corner_sum k e x y) → ((x j : ℕ) → x < s → top ≤ j → j < bottom → h x j ≡ prefix k (λ i. e i j) x) →
       (x y : ℕ) → x < s → (y ≤ bottom) ⊎ (y ≤ top) → cell k s after x y ≡ corner_sum k e x y
   sums_stand s top bottom before after h e so base rows x zero hx hy = so.others x 0 hx (inl (omega arith)) ∙ base x 0 hx (omega arith)
@@ -25,13 +31,13 @@ module _ {E : Type 0} (k : Ghosts E) where
   ]
 
   -- more rows laid on a table of p give the table of q
-  pub laid_on : (w h rows rows' : ℕ) (before after : List E) (f : ℕ → ℕ → E) (p q : Levels) → rows ≤ rows' → Summed k (w + 1) before rows rows' f after →
-      ((i j : ℕ) → j < rows → p i j ≡ q i j) → ((x j : ℕ) → rows ≤ j → j < rows' → f x j ≡ prefix k (λ i. k.lifted (q i j)) x) →
+  pub laid_on : (w h rows rows' : ℕ) (before after : List E) (f : ℕ → ℕ → E) (p q : Levels) → rows ≤ rows' → Summed (w + 1) before rows rows' f after →
+      ((i j : ℕ) → j < rows → p i j ≡ q i j) → ((x j : ℕ) → x < w + 1 → rows ≤ j → j < rows' → f x j ≡ prefix k (λ i. k.lifted (q i j)) x) →
       TableOf k w h rows (λ x y. k.lifted (p x y)) before → TableOf k w h rows' (λ x y. k.lifted (q x y)) after
   laid_on w h rows rows' before after f p q le so same new was = record {
     entry = λ x y hx hy. sums_stand (w + 1) rows rows' before after f (λ i j. k.lifted (q i j)) so
         (λ i j hi hj. was.entry i j (omega arith) hj ∙ corner_same k (λ a b. k.lifted (p a b)) (λ a b. k.lifted (q a b)) i j (λ a b ha hb. ap k.lifted (same a b (omega arith))))
-        (λ i j hi lo up. new i j lo up)
+        new
         x
         y
         (omega arith)

@@ -1,6 +1,7 @@
 pub mod Table
 pub mod Page
 pub mod Fill
+pub mod Frame
 pub mod Sheet
 pub mod Cut
 pub mod Run

@@ -7,6 +7,7 @@ use Rattle.refusal.specs.declared.Refusal.{Refusal}
 use Rattle.sheet.specs.declared.fill.Fill.{Fill}
 use Rattle.sheet.specs.declared.rectangle.Rectangle.{Rectangle}
 use Rattle.sheet.specs.declared.rows.Sign.{Sign}
+use Rattle.sheet.specs.declared.span.Span.{Span}
 use Rattle.sheet.specs.declared.state.Finished.{Finished}
 use Rattle.sheet.specs.declared.state.Growing.{Growing}
 use Rattle.sheet.specs.Fill.{level_at}
@@ -29,10 +30,10 @@ pub record FinishedState (E : Type 0) : Type 0 where
   pub memory : List E
 
 abbrev pub growing : {E : Type 0} → Growing E → GrowingState E
-growing s = record { width = s.width; height = s.height; fed = s.fed; memory = s.table.now }
+growing s = record { width = s.frame.width; height = s.frame.height; fed = s.fed; memory = s.table.now }
 
 abbrev pub finished : {E : Type 0} → Finished E → FinishedState E
-finished s = record { width = s.width; height = s.height; edits = s.edits; laid = s.laid; memory = s.table.now }
+finished s = record { width = s.frame.width; height = s.frame.height; edits = s.edits; laid = s.laid; memory = s.table.now }
 
 -- how many entries the table of a sheet takes; a sheet of height 0 has no table
 abbrev pub table_size : (width height : ℕ) → ℕ
@@ -131,20 +132,17 @@ pub record SumLaw {E : Type 0} (k : Ghosts E) : Type 0 where
 abbrev pub filed : {E : Type 0} → FinishedState E → ℕ × ℕ
 filed s = (s.edits, s.laid)
 
--- a rectangle on a sheet whose table lies in n entries
-pub record OnTable (width height : ℕ) (r : Rectangle) (n : ℕ) : Type 0 where
-  pub wide : width ≤ 4096
-  pub tall : height ≤ 4096
+-- columns and rows of a sheet whose table lies in n entries
+pub record OnTable (width height : ℕ) (columns rows : Span) (n : ℕ) : Type 0 where
   pub room : (width + 1) * (height + 1) ≤ n
-  pub across : r.left ≤ r.right
-  pub down : r.top ≤ r.bottom
-  pub right : r.right < width
-  pub bottom : r.bottom < height
+  pub across : columns.start < columns.end
+  pub right : columns.end ≤ width
+  pub bottom : rows.end ≤ height
 
 -- the table rows below the rectangle, right of its left side, joined with its last table row or with the inverse of that
 pub record Carried {E : Type 0} (k : Ghosts E) (width height : ℕ) (r : Rectangle) (sign : Sign) (before after : List E) : Type 0 where
   pub rows : Added k (width + 1) before (r.left + 1) (r.bottom + 2) (height + 1) (r.bottom + 1) sign after
 
--- the rectangle's table rows with new levels
-pub record Laid {E : Type 0} (k : Ghosts E) (width : ℕ) (r : Rectangle) (fill : Fill) (before after : List E) : Type 0 where
-  pub rows : Rewritten k (width + 1) before r.left (r.right + 1) r.top (r.bottom + 1) (λ i j. k.lifted (level_at fill ((j - r.top) * columns r + (i - r.left)))) after
+-- these page rows with new levels in these columns, listed row after row
+pub record Laid {E : Type 0} (k : Ghosts E) (width : ℕ) (across down : Span) (fill : Fill) (before after : List E) : Type 0 where
+  pub rows : Rewritten k (width + 1) before across.start across.end down.start down.end (λ i j. k.lifted (level_at fill ((j - down.start) * (across.end - across.start) + (i - across.start)))) after

@@ -24,27 +24,19 @@ module _ {E : Type 0} (k : Ghosts E) where
   prefix_from start f zero = start
   prefix_from start f (suc n) = k.joined (prefix_from start f n) (f n)
 
+  -- entry i of a list
+  abbrev pub entry_at : List E → ℕ → E
+  entry_at entries i = slice_index_or entries i k.neutral
+
   -- the entry at column x of row y, where a row has `stride` entries
   abbrev pub cell : ℕ → List E → ℕ → ℕ → E
-  cell stride table x y = slice_index_or table (y * stride + x) k.neutral
-
-  -- `after` is `before` with v at column x of row y
-  pub record Written (stride : ℕ) (before : List E) (x y : ℕ) (v : E) (after : List E) : Type 0 where
-    pub long : length after ≡ length before
-    pub here : cell stride after x y ≡ v
-    pub others : (i j : ℕ) → i < stride → (i ≢ x) ⊎ (j ≢ y) → cell stride after i j ≡ cell stride before i j
+  cell stride table x y = entry_at table (y * stride + x)
 
   -- `after` is `before` with f i at each column i of row y from `left` on and below `right`
   pub record Filled (stride : ℕ) (before : List E) (y left right : ℕ) (f : ℕ → E) (after : List E) : Type 0 where
     pub long : length after ≡ length before
     pub here : (i : ℕ) → i < stride → left ≤ i → i < right → cell stride after i y ≡ f i
     pub others : (i j : ℕ) → i < stride → (i < left) ⊎ ((right ≤ i) ⊎ (j ≢ y)) → cell stride after i j ≡ cell stride before i j
-
-  -- In `after` each row from top + 1 to bottom is the row above it joined with what h has for that row above; the other rows are those of `before`.
-  pub record Summed (stride : ℕ) (before : List E) (top bottom : ℕ) (h : ℕ → ℕ → E) (after : List E) : Type 0 where
-    pub long : length after ≡ length before
-    pub rows : (i j : ℕ) → i < stride → top ≤ j → j < bottom → cell stride after i (j + 1) ≡ k.joined (cell stride after i j) (h i j)
-    pub others : (i j : ℕ) → i < stride → (j ≤ top) ⊎ (bottom < j) → cell stride after i j ≡ cell stride before i j
 
   -- Row `base`, or its inverse, is joined to each row from `top` on and below `bottom`, from column `left` on.
   pub record Added (stride : ℕ) (before : List E) (left top bottom base : ℕ) (sign : Sign) (after : List E) : Type 0 where
@@ -67,9 +59,3 @@ module _ {E : Type 0} (k : Ghosts E) where
   pub record TableOf (width height rows : ℕ) (e : ℕ → ℕ → E) (table : List E) : Type 0 where
     pub entry : (x y : ℕ) → x ≤ width → y ≤ rows → cell (width + 1) table x y ≡ corner_sum e x y
     pub rest : (x y : ℕ) → x ≤ width → rows < y → y ≤ height → cell (width + 1) table x y ≡ k.neutral
-
-  -- `after` is `before` with the identity in its first n entries
-  pub record Cleared (before : List E) (n : ℕ) (after : List E) : Type 0 where
-    pub long : length after ≡ length before
-    pub here : (i : ℕ) → i < n → slice_index_or after i k.neutral ≡ k.neutral
-    pub others : (i : ℕ) → n ≤ i → slice_index_or after i k.neutral ≡ slice_index_or before i k.neutral

@@ -7,10 +7,10 @@ use Rattle.sheet.specs.Page.{fits_answer}
 
 -- what a table shows
 abbrev pub width_of : {E : Type 0} → Table E → ℕ
-width_of t = t.width
+width_of t = t.frame.width
 
 abbrev pub height_of : {E : Type 0} → Table E → ℕ
-height_of t = t.height
+height_of t = t.frame.height
 
 abbrev pub entries_of : {E : Type 0} → Table E → List E
 entries_of t = t.entries.now

@@ -1,20 +1,14 @@
 // One entry of a table, by its column and row.
 ghost use Rattle.std.specs.Prelude.{◌≡◌, ◌+◌, ◌*◌, ◌<◌, length};
-ghost use Rattle.sheet.specs.Table.{cell, Written};
+ghost use Rattle.sheet.specs.Table.{cell};
 
 use entry::Entry;
 
 // The entry at column `x` of row `y`, where a row has `stride` entries.
 pub(crate) fn read<E: Entry>(table: &[E], stride: usize, x: usize, y: usize) -> E
-    requires { (x < stride) × (y * stride + x < length table.now) }
+    requires column { x < stride }
+    requires within { y * stride + x < length table.now }
     ensures { result ≡ cell E.Entry stride table.now x y }
 {
     table[y * stride + x]
-}
-
-pub(crate) fn write<E: Entry>(table: &mut [E], stride: usize, x: usize, y: usize, entry: E)
-    requires { (x < stride) × (y * stride + x < length table.old) }
-    ensures { Written E.Entry stride table.old x y entry table.new }
-{
-    table[y * stride + x] = entry;
 }

@@ -27,19 +27,15 @@ impl<'a, E: Entry> Finished<'a, E> {
     {
         let Finished {
             table,
-            width,
-            height,
+            frame,
             edits,
             laid,
         } = self;
-        if !rect.is_on(*width, *height) {
-            return Err(Refusal::OffSheet);
-        }
-        let n = rect.area();
+        let n = rect.area_on(*frame)?;
         if levels.len() != n {
             return Err(Refusal::PatchLength);
         }
-        rewrite(table, *width, *height, rect, Fill::Each(levels));
+        rewrite(table, *frame, rect, Fill::Each(levels));
         count(edits, laid, n);
         Ok(n)
     }
@@ -51,17 +47,13 @@ impl<'a, E: Entry> Finished<'a, E> {
     {
         let Finished {
             table,
-            width,
-            height,
+            frame,
             edits,
             laid,
         } = self;
-        if !rect.is_on(*width, *height) {
-            return Err(Refusal::OffSheet);
-        }
-        let n = rect.area();
+        let n = rect.area_on(*frame)?;
         let fill: Fill<'static> = Fill::All(level);
-        rewrite(table, *width, *height, rect, fill);
+        rewrite(table, *frame, rect, fill);
         count(edits, laid, n);
         Ok(n)
     }
@@ -73,8 +65,7 @@ impl<'a, E: Entry> Finished<'a, E> {
     {
         let Finished {
             table: _,
-            width: _,
-            height: _,
+            frame: _,
             edits,
             laid,
         } = self;

@@ -4,6 +4,8 @@
 mod cells;
 mod fill;
 mod finished;
+mod fitting;
+mod frame;
 mod growing;
 mod pages;
 mod passes;
@@ -15,7 +17,9 @@ mod state;
 mod table;
 mod whole;
 
-pub use growing::{begin, fits};
+pub use fitting::fits;
+pub use frame::Frame;
+pub use growing::begin;
 pub use pages::lay_page;
 pub use rectangle::Rectangle;
 pub use span::Span;

@@ -1,41 +1,14 @@
 // Many rows of a table.
-ghost use Rattle.std.specs.Prelude.{◌≡◌, ℕ, ◌+◌, ◌-◌, ◌*◌, ◌<◌, ◌≤◌, length};
-ghost use Rattle.entry.specs.Sums.{prefix};
+ghost use Rattle.std.specs.Prelude.{ℕ, ◌+◌, ◌-◌, ◌*◌, ◌<◌, ◌≤◌, length};
 ghost use Rattle.sheet.specs.Fill.{Reaches};
-ghost use Rattle.sheet.specs.Page.{area};
 ghost use Rattle.sheet.specs.Sheet.{Laid, OnTable};
-ghost use Rattle.sheet.specs.Table.{Added, Cleared, Summed};
+ghost use Rattle.sheet.specs.Table.{Added};
 
 use crate::fill::Fill;
-use crate::rectangle::Rectangle;
-use crate::rows::{Sign, add_row, lay_level, rewrite_row};
+use crate::frame::Frame;
+use crate::rows::{Sign, add_row, rewrite_row};
+use crate::span::Span;
 use entry::Entry;
-
-// Sets the first `n` entries to the identity.
-pub(crate) fn clear<E: Entry>(table: &mut [E], n: usize)
-    requires { n ≤ length table.old }
-    ensures { Cleared E.Entry table.old n table.new }
-{
-    for i in 0..n {
-        table[i] = E::zero();
-    }
-}
-
-// Lays the page rows from `top` on and above `bottom` at one level.
-pub(crate) fn lay_levels<E: Entry>(
-    table: &mut [E],
-    stride: usize,
-    top: usize,
-    bottom: usize,
-    level: u8,
-)
-    requires { ((0 < bottom → stride * (bottom + 1) ≤ length table.old)) × (top ≤ bottom) }
-    ensures { Summed E.Entry stride table.old top bottom (λ i j. prefix E.Entry (λ x. E.lifted level) i) table.new }
-{
-    for y in top..bottom {
-        lay_level(table, stride, y, level);
-    }
-}
 
 // Joins row `base` or its inverse to each table row from `top` on and above `bottom`, from column `left` on.
 pub(crate) fn add_rows<E: Entry>(
@@ -56,20 +29,22 @@ pub(crate) fn add_rows<E: Entry>(
     }
 }
 
-// Lays the levels into the table rows of the rectangle.
+// Lays levels, row after row, into these columns and page rows, and shifts what stands right of them.
 pub(crate) fn rewrite_rows<E: Entry>(
     table: &mut [E],
-    width: usize,
-    height: usize,
-    rect: Rectangle,
+    frame: Frame,
+    columns: Span,
+    rows: Span,
     fill: Fill<'_>,
 )
-    requires on { OnTable width height rect (length table.old) }
-    requires reaches { (n : ℕ) → n < area rect → Reaches fill n }
-    ensures { Laid E.Entry width rect fill.entry table.old table.new }
+    requires order { rows.start ≤ rows.end }
+    requires on { (rows.start < rows.end → OnTable frame.width frame.height columns rows (length table.old)) }
+    requires reaches { (n : ℕ) → n < (columns.end - columns.start) * (rows.end - rows.start) → Reaches fill n }
+    ensures { Laid E.Entry frame.width columns rows fill.entry table.old table.new }
 {
-    let columns = rect.right + 1 - rect.left;
-    for y in rect.top..rect.bottom + 1 {
-        rewrite_row(table, width + 1, y, rect, fill, (y - rect.top) * columns);
+    let stride = frame.width + 1;
+    for y in rows.start..rows.end {
+        let first = (y - rows.start) * (columns.end - columns.start);
+        rewrite_row(table, stride, y, columns, fill, first);
     }
 }

@@ -9,7 +9,7 @@ ghost use Rattle.sheet.specs.Table.{cell};
 ghost use Rattle.sheet.specs.View.{Viewed};
 
 use crate::cells::read;
-use crate::growing::fits;
+use crate::frame::Frame;
 use crate::rectangle::Rectangle;
 use crate::span::Span;
 use crate::state::Finished;
@@ -30,8 +30,10 @@ fn cut_law<E: Entry>()
 
 // How many pixels so many columns and rows have.
 fn pixels(columns: usize, rows: usize) -> usize
-    requires { (columns ≤ 4096) × (rows ≤ 4096) }
-    ensures { (result ≡ columns * rows) × (result ≤ 16777216) }
+    requires columns { columns ≤ 4096 }
+    requires rows { rows ≤ 4096 }
+    ensures product { result ≡ columns * rows }
+    ensures small { result ≤ 16777216 }
 {
     columns * rows
 }
@@ -41,26 +43,26 @@ impl<'a, E: Entry> Table<'a, E> {
     pub fn of(entries: &'a [E], width: usize, height: usize) -> Result<Table<'a, E>, Refusal>
         ensures { Viewed entries.now width height result }
     {
-        fits(width, height, entries.len())?;
-        Ok(Table {
-            entries,
-            width,
-            height,
-        })
+        let frame = Frame::fitting(width, height, entries.len())?;
+        Ok(Table { entries, frame })
     }
 
     // The entry at column `x` of table row `y`.
     fn corner(&self, x: usize, y: usize) -> E
-        requires { (x ≤ self.now.width) × ((y ≤ self.now.height) × (0 < self.now.height)) }
-        ensures { result ≡ cell E.Entry (self.now.width + 1) self.now.entries.now x y }
+        requires column { x ≤ self.now.frame.width }
+        requires row { y ≤ self.now.frame.height }
+        requires some { 0 < self.now.frame.height }
+        ensures { result ≡ cell E.Entry (self.now.frame.width + 1) self.now.entries.now x y }
     {
-        read(self.entries, self.width + 1, x, y)
+        read(self.entries, self.frame.width + 1, x, y)
     }
 
     // What lies in these columns and rows, from the four corners where they meet.
     fn corners(&self, columns: Span, rows: Span) -> E
-        requires { (columns.start ≤ columns.end) × ((columns.end ≤ self.now.width) × ((rows.start ≤ rows.end) × ((rows.end ≤ self.now.height) × (0 < self.now.height)))) }
-        ensures { result ≡ corners E.Entry (cell E.Entry (self.now.width + 1) self.now.entries.now) columns.start columns.end rows.start rows.end }
+        requires across { (columns.start ≤ columns.end) × (columns.end ≤ self.now.frame.width) }
+        requires down { (rows.start ≤ rows.end) × (rows.end ≤ self.now.frame.height) }
+        requires some { 0 < self.now.frame.height }
+        ensures { result ≡ corners E.Entry (cell E.Entry (self.now.frame.width + 1) self.now.entries.now) columns.start columns.end rows.start rows.end }
     {
         let all = self.corner(columns.end, rows.end);
         let before = self.corner(columns.start, rows.end);
@@ -71,24 +73,19 @@ impl<'a, E: Entry> Table<'a, E> {
 
     // How many pixels a rectangle has.
     pub fn area(&self, rect: Rectangle) -> Result<usize, Refusal>
-        ensures { told result ≡ area_answer self.now.width self.now.height rect }
+        ensures { told result ≡ area_answer self.now.frame.width self.now.frame.height rect }
     {
-        if !rect.is_on(self.width, self.height) {
-            return Err(Refusal::OffSheet);
-        }
-        Ok(rect.area())
+        rect.area_on(self.frame)
     }
 
     // The entry of a rectangle, from the four corners of the table.
     pub fn sum(&self, rect: Rectangle) -> Result<E, Refusal>
-        ensures answer { told result ≡ sum_answer E.Entry self.now.width self.now.height self.now.entries.now rect }
+        ensures answer { told result ≡ sum_answer E.Entry self.now.frame.width self.now.frame.height self.now.entries.now rect }
         ensures law { SumLaw E.Entry }
         ensures runs { RunsAgree E.Entry }
     {
         sum_laws::<E>();
-        if !rect.is_on(self.width, self.height) {
-            return Err(Refusal::OffSheet);
-        }
+        self.area(rect)?;
         Ok(self.corners(
             Span {
                 start: rect.left,
@@ -103,14 +100,15 @@ impl<'a, E: Entry> Table<'a, E> {
 
     // What these columns and rows have on the sheet.
     fn cut(&self, columns: Span, rows: Span) -> (Span, Span)
-        ensures { (result.0.start ≡ cut_start self.now.width columns) × ((result.0.end ≡ cut_end self.now.width columns) × ((result.1.start ≡ cut_start self.now.height rows) × (result.1.end ≡ cut_end self.now.height rows))) }
+        ensures across { (result.0.start ≡ cut_start self.now.frame.width columns) × (result.0.end ≡ cut_end self.now.frame.width columns) }
+        ensures down { (result.1.start ≡ cut_start self.now.frame.height rows) × (result.1.end ≡ cut_end self.now.frame.height rows) }
     {
-        (columns.cut(self.width), rows.cut(self.height))
+        (columns.cut(self.frame.width), rows.cut(self.frame.height))
     }
 
     // The entry of these columns and rows, cut at the frame.
     pub fn cut_sum(&self, columns: Span, rows: Span) -> E
-        ensures value { result ≡ cut_sum E.Entry self.now.width self.now.height self.now.entries.now columns rows }
+        ensures value { result ≡ cut_sum E.Entry self.now.frame.width self.now.frame.height self.now.entries.now columns rows }
         ensures law { CutLaw E.Entry }
     {
         cut_law::<E>();
@@ -124,7 +122,7 @@ impl<'a, E: Entry> Table<'a, E> {
 
     // How many pixels these columns and rows have on the sheet.
     pub fn cut_area(&self, columns: Span, rows: Span) -> usize
-        ensures value { result ≡ cut_area self.now.width self.now.height columns rows }
+        ensures value { result ≡ cut_area self.now.frame.width self.now.frame.height columns rows }
         ensures small { result ≤ 16777216 }
         ensures law { CutLaw E.Entry }
     {
@@ -137,18 +135,18 @@ impl<'a, E: Entry> Table<'a, E> {
 impl<'a, E: Entry> Finished<'a, E> {
     // The table of the sheet.
     pub fn table(&self) -> Table<'_, E>
-        ensures { (result.entries.now ≡ self.now.table.now) × ((result.width ≡ self.now.width) × (result.height ≡ self.now.height)) }
+        ensures entries { result.entries.now ≡ self.now.table.now }
+        ensures frame { result.frame ≡ self.now.frame }
     {
         Table {
             entries: self.table,
-            width: self.width,
-            height: self.height,
+            frame: self.frame,
         }
     }
 
     // The entry of a rectangle, from the four corners of the table.
     pub fn sum(&self, rect: Rectangle) -> Result<E, Refusal>
-        ensures answer { told result ≡ sum_answer E.Entry self.now.width self.now.height self.now.table.now rect }
+        ensures answer { told result ≡ sum_answer E.Entry self.now.frame.width self.now.frame.height self.now.table.now rect }
         ensures law { SumLaw E.Entry }
         ensures runs { RunsAgree E.Entry }
     {

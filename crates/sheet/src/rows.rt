@@ -1,13 +1,11 @@
-// One row of a table.
-ghost use Rattle.std.specs.Prelude.{◌≡◌, ℕ, ◌+◌, ◌-◌, ◌*◌, ◌^◌, ◌<◌, ◌≤◌, length, slice_index};
-ghost use Rattle.entry.specs.Sums.{prefix};
+// Rows of entries, and one row of a table.
+ghost use Rattle.std.specs.Prelude.{◌≡◌, ℕ, ◌+◌, ◌-◌, ◌*◌, ◌^◌, ◌<◌, ◌≤◌, length};
 ghost use Rattle.sheet.specs.Fill.{Reaches, level_at};
-ghost use Rattle.sheet.specs.Page.{columns};
-ghost use Rattle.sheet.specs.Table.{cell, less, signed, prefix_from, Filled, Rewritten};
+ghost use Rattle.sheet.specs.Table.{cell, entry_at, less, signed, prefix_from, Filled, Rewritten};
 
-use crate::cells::{read, write};
+use crate::cells::read;
 use crate::fill::Fill;
-use crate::rectangle::Rectangle;
+use crate::span::Span;
 use entry::Entry;
 
 // Whether an entry is joined as it is, or as its inverse.
@@ -28,33 +26,45 @@ impl Sign {
     }
 }
 
-// Lays table row `y + 1` from table row `y` and the levels of a page row.
-pub(crate) fn lay_row<E: Entry>(table: &mut [E], y: usize, row: &[u8])
-    requires { (length row.now + 1) * (y + 2) ≤ length table.old }
-    ensures { Filled E.Entry (length row.now + 1) table.old (y + 1) 0 (length row.now + 1) (λ i. E.joined (cell E.Entry (length row.now + 1) table.old i y) (prefix E.Entry (λ x. E.lifted (slice_index row.now x)) i)) table.new }
+// Sets every entry to the identity.
+pub(crate) fn clear<E: Entry>(row: &mut [E])
+    ensures { (i : ℕ) → i < length row.old → entry_at E.Entry row.new i ≡ E.neutral }
 {
-    let stride = row.len() + 1;
-    let mut before = E::zero();
-    for (x, level) in row.iter().enumerate() {
-        let above = read(table, stride, x, y);
-        write(table, stride, x, y + 1, above.join(before));
-        before = before.join(E::lift(*level));
+    for entry in row.iter_mut() {
+        *entry = E::zero();
     }
-    let last = read(table, stride, row.len(), y);
-    write(table, stride, row.len(), y + 1, last.join(before));
 }
 
-// Lays table row `y + 1` from table row `y` and a page row of one level.
-pub(crate) fn lay_level<E: Entry>(table: &mut [E], stride: usize, y: usize, level: u8)
-    requires { stride * (y + 2) ≤ length table.old }
-    ensures { Filled E.Entry stride table.old (y + 1) 0 stride (λ i. E.joined (cell E.Entry stride table.old i y) (prefix E.Entry (λ x. E.lifted level) i)) table.new }
+// Makes each entry the one above it, joined with `start` and the levels from number `first` on up to its own.
+fn accumulate<E: Entry>(row: &mut [E], above: &[E], start: E, fill: Fill<'_>, first: usize)
+    requires above { length row.old ≤ length above.now }
+    requires numbered { first + length row.old < 2 ^ 64 }
+    requires reaches { (n : ℕ) → n < length row.old → Reaches fill (first + n) }
+    ensures { (i : ℕ) → i < length row.old → entry_at E.Entry row.new i ≡ E.joined (entry_at E.Entry above.now i) (prefix_from E.Entry start (λ n. E.lifted (level_at fill.entry (first + n))) (i + 1)) }
 {
-    let entry = E::lift(level);
-    let mut sum = E::zero();
-    for x in 0..stride {
-        let above = read(table, stride, x, y);
-        write(table, stride, x, y + 1, above.join(sum));
-        sum = sum.join(entry);
+    let mut sum = start;
+    for (x, entry) in row.iter_mut().enumerate() {
+        sum = sum.join(E::lift(fill.level(first + x)));
+        *entry = above[x].join(sum);
+    }
+}
+
+// Joins to each entry the one of the other row, or its inverse.
+fn add<E: Entry>(row: &mut [E], other: &[E], sign: Sign)
+    requires { length row.old ≤ length other.now }
+    ensures { (i : ℕ) → i < length row.old → entry_at E.Entry row.new i ≡ E.joined (entry_at E.Entry row.old i) (signed E.Entry sign (entry_at E.Entry other.now i)) }
+{
+    for (x, entry) in row.iter_mut().enumerate() {
+        *entry = entry.join(sign.of(other[x]));
+    }
+}
+
+// Joins one entry to each entry.
+fn shift<E: Entry>(row: &mut [E], change: E)
+    ensures { (i : ℕ) → i < length row.old → entry_at E.Entry row.new i ≡ E.joined (entry_at E.Entry row.old i) change }
+{
+    for entry in row.iter_mut() {
+        *entry = entry.join(change);
     }
 }
 
@@ -67,66 +77,81 @@ pub(crate) fn add_row<E: Entry>(
     base: usize,
     sign: Sign,
 )
-    requires { (stride * (y + 1) ≤ length table.old) × ((base < y) × (left ≤ stride)) }
+    requires room { stride * (y + 1) ≤ length table.old }
+    requires order { base < y }
+    requires column { left ≤ stride }
     ensures { Filled E.Entry stride table.old y left stride (λ i. E.joined (cell E.Entry stride table.old i y) (signed E.Entry sign (cell E.Entry stride table.old i base))) table.new }
 {
-    for x in left..stride {
-        let here = read(table, stride, x, y);
-        let above = read(table, stride, x, base);
-        write(table, stride, x, y, here.join(sign.of(above)));
-    }
+    let (upper, lower) = table.split_at_mut(y * stride);
+    let from = base * stride + left;
+    let end = (base + 1) * stride;
+    add(&mut lower[left..stride], &upper[from..end], sign);
 }
 
 // Joins one entry to row `y`, from column `left` on.
 fn shift_row<E: Entry>(table: &mut [E], stride: usize, left: usize, y: usize, change: E)
-    requires { (stride * (y + 1) ≤ length table.old) × (left ≤ stride) }
+    requires room { stride * (y + 1) ≤ length table.old }
+    requires column { left ≤ stride }
     ensures { Filled E.Entry stride table.old y left stride (λ i. E.joined (cell E.Entry stride table.old i y) change) table.new }
 {
-    for x in left..stride {
-        let here = read(table, stride, x, y);
-        write(table, stride, x, y, here.join(change));
-    }
+    let (_, lower) = table.split_at_mut(y * stride);
+    shift(&mut lower[left..stride], change);
 }
 
-// Lays `count` levels from number `first` on into the columns right of `left`, in table row `y + 1`.
+// Lays the levels from number `first` on into these columns of page row `y`.
 fn rewrite_columns<E: Entry>(
     table: &mut [E],
     stride: usize,
     y: usize,
-    left: usize,
-    count: usize,
+    columns: Span,
     fill: Fill<'_>,
     first: usize,
 )
-    requires room { (stride * (y + 2) ≤ length table.old) × ((left + count < stride) × (first + count < 2 ^ 64)) }
-    requires reaches { (n : ℕ) → n < count → Reaches fill (first + n) }
-    ensures { Filled E.Entry stride table.old (y + 1) (left + 1) (left + 1 + count) (λ i. E.joined (cell E.Entry stride table.old i y) (prefix_from E.Entry (less E.Entry (cell E.Entry stride table.old left (y + 1)) (cell E.Entry stride table.old left y)) (λ n. E.lifted (level_at fill.entry (first + n))) (i - left))) table.new }
+    requires room { stride * (y + 2) ≤ length table.old }
+    requires columns { (columns.start ≤ columns.end) × (columns.end < stride) }
+    requires numbered { first + (columns.end - columns.start) < 2 ^ 64 }
+    requires reaches { (n : ℕ) → n < columns.end - columns.start → Reaches fill (first + n) }
+    ensures { Filled E.Entry stride table.old (y + 1) (columns.start + 1) (columns.end + 1) (λ i. E.joined (cell E.Entry stride table.old i y) (prefix_from E.Entry (less E.Entry (cell E.Entry stride table.old columns.start (y + 1)) (cell E.Entry stride table.old columns.start y)) (λ n. E.lifted (level_at fill.entry (first + n))) (i - columns.start))) table.new }
 {
-    let before = read(table, stride, left, y);
-    let mut sum = read(table, stride, left, y + 1).join(before.inverse());
-    for n in 0..count {
-        sum = sum.join(E::lift(fill.level(first + n)));
-        let above = read(table, stride, left + 1 + n, y);
-        write(table, stride, left + 1 + n, y + 1, above.join(sum));
-    }
+    let before = read(table, stride, columns.start, y);
+    let start = read(table, stride, columns.start, y + 1).join(before.inverse());
+    let left = columns.start + 1;
+    let right = columns.end + 1;
+    let from = y * stride + left;
+    let end = (y + 1) * stride;
+    let (upper, lower) = table.split_at_mut(end);
+    accumulate(
+        &mut lower[left..right],
+        &upper[from..end],
+        start,
+        fill,
+        first,
+    );
 }
 
-// Lays the levels from number `first` on into page row `y`, in the columns of the rectangle, and shifts what stands right of them.
+// Lays the levels from number `first` on into these columns of page row `y`, and shifts what stands right of them.
 pub(crate) fn rewrite_row<E: Entry>(
     table: &mut [E],
     stride: usize,
     y: usize,
-    rect: Rectangle,
+    columns: Span,
     fill: Fill<'_>,
     first: usize,
 )
-    requires room { (stride * (y + 2) ≤ length table.old) × ((rect.left ≤ rect.right) × ((rect.right + 1 < stride) × (first + (rect.right + 1) < 2 ^ 64))) }
-    requires reaches { (n : ℕ) → n < columns rect → Reaches fill (first + n) }
-    ensures { Rewritten E.Entry stride table.old rect.left (rect.right + 1) y (y + 1) (λ i j. E.lifted (level_at fill.entry (first + (i - rect.left)))) table.new }
+    requires room { stride * (y + 2) ≤ length table.old }
+    requires columns { (columns.start < columns.end) × (columns.end < stride) }
+    requires numbered { first + (columns.end - columns.start) < 2 ^ 64 }
+    requires reaches { (n : ℕ) → n < columns.end - columns.start → Reaches fill (first + n) }
+    ensures { Rewritten E.Entry stride table.old columns.start columns.end y (y + 1) (λ i j. E.lifted (level_at fill.entry (first + (i - columns.start)))) table.new }
 {
-    let last = rect.right + 1;
-    let old = read(table, stride, last, y + 1);
-    rewrite_columns(table, stride, y, rect.left, last - rect.left, fill, first);
-    let new = read(table, stride, last, y + 1);
-    shift_row(table, stride, last + 1, y + 1, new.join(old.inverse()));
+    let old = read(table, stride, columns.end, y + 1);
+    rewrite_columns(table, stride, y, columns, fill, first);
+    let new = read(table, stride, columns.end, y + 1);
+    shift_row(
+        table,
+        stride,
+        columns.end + 1,
+        y + 1,
+        new.join(old.inverse()),
+    );
 }

@@ -12,7 +12,8 @@ pub struct Span {
 impl Span {
     // The part below `size`.
     pub(crate) fn cut(self, size: usize) -> Span
-        ensures { (result.start ≡ cut_start size self) × (result.end ≡ cut_end size self) }
+        ensures start { result.start ≡ cut_start size self }
+        ensures end { result.end ≡ cut_end size self }
     {
         let end = self.end.min(size);
         Span {

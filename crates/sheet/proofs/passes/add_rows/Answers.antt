@@ -3,8 +3,8 @@ use Rattle.sheet.proofs.Places.{room}
 use Rattle.sheet.proofs.RowSteps.{added_more}
 use Rattle.sheet.proofs.passes.add_rows.Goals as goal
 
-pub add_row-requires : goal.add_row-requires
-add_row-requires g c = (room c.args.stride (c.loop-y.y + 1) c.args.bottom (length c.loop-y.table) (omega arith) (omega arith), (omega arith, omega arith))
+pub add_row-requires-clause-room : goal.add_row-requires-clause-room
+add_row-requires-clause-room g c = room c.args.stride (c.loop-y.y + 1) c.args.bottom (length c.loop-y.table) (omega arith) (omega arith)
 
 pub loop-y-preserved : goal.loop-y-preserved
 loop-y-preserved g c =

@@ -1,23 +1,28 @@
-use Rattle.std.proofs.Common.{◌≡◌, ◌+◌, ◌<◌, length, inl, inr, arith}
-use Rattle.sheet.specs.Table.{cell, signed}
-use Rattle.sheet.proofs.Places.{inside}
-use Rattle.sheet.proofs.Fills.{filled_more}
+use Rattle.std.proofs.Common.{◌-◌, ap, ◌∙◌, arith}
+use Rattle.sheet.specs.Table.{signed}
+use Rattle.sheet.proofs.Parts.{joined_at, part_long, in_part, above_long, above_part, row_part}
 use Rattle.sheet.proofs.rows.add_row.Goals as goal
 
-pub loop-x-preserved : goal.loop-x-preserved
-loop-x-preserved g c =
+pub add-requires : goal.add-requires
+add-requires g c =
     let k = g.E.Entry in
     let s = c.args.stride in
-    let t = c.args.table.now in
-    let x = c.loop-x.x in
     let y = c.args.y in
-    let inv = c.loop-x.invariant in
-    let lt : x < s = omega arith in
-    let here = inv.others x y lt (inr (inl (omega arith))) in
-    let above = inv.others x c.args.base lt (inr (inr (λ e. omega arith))) in
-    let is : c.join.result ≡ k.joined (cell k s t x y) (signed k c.args.sign (cell k s t x c.args.base)) = cc in
-    filled_more k s t y c.args.left _ x _ _ _ lt (omega arith) inv c.write.ensures is
+    let e = c.split_at_mut-upper.ensures in
+    let here = part_long k s y _ _ _ e.value e.front_len c.args.left s (omega arith) (omega arith) (omega arith) in
+    let other = above_long k s y _ _ _ e.value e.front_len c.args.base c.args.left (omega arith) (omega arith) in
+    omega arith
 
-pub read-above-requires : goal.read-above-requires
-read-above-requires g c =
-    (c.loop-x-test.true, inside c.args.stride c.loop-x.x c.args.base (c.args.y + 1) (length c.loop-x.table) c.loop-x-test.true (omega arith) (omega arith))
+pub returns : goal.returns
+returns g c =
+    let k = g.E.Entry in
+    let s = c.args.stride in
+    let y = c.args.y in
+    let left = c.args.left in
+    let e = c.split_at_mut-upper.ensures in
+    let long = part_long k s y _ _ _ e.value e.front_len left s (omega arith) (omega arith) (omega arith) in
+    row_part k s y _ _ _ e.value e.front_len left s c.add.new.row _ (omega arith) (omega arith) (omega arith) (c.add.auto.row ∙ long)
+    (λ i lt.
+    let here = in_part k s y _ _ _ e.value e.front_len left (s - left) i lt in
+    let other = above_part k s y _ _ _ e.value e.front_len c.args.base left i (omega arith) lt in
+    joined_at k (c.add.ensures i (omega arith)) here (ap (signed k c.args.sign) other))

@@ -9,8 +9,9 @@ returns g c =
     let k = g.E.Entry in
     let s = c.args.stride in
     let y = c.args.y in
-    let r = c.args.rect in
-    let change : c.join.result ≡ less k (cell k s c.rewrite_columns.new.table (r.right + 1) (y + 1)) (cell k s c.args.table.now (r.right + 1) (y + 1)) = cc in
-    row_rewritten k s y r.left (r.right + 1) c.args.table.now c.rewrite_columns.new.table c.shift_row.new.table _ _ _ (omega arith) (omega arith)
+    let left = c.args.columns.start in
+    let right = c.args.columns.end in
+    let change : c.join.result ≡ less k (cell k s c.rewrite_columns.new.table right (y + 1)) (cell k s c.args.table.now right (y + 1)) = cc in
+    row_rewritten k s y left right c.args.table.now c.rewrite_columns.new.table c.shift_row.new.table _ _ _ (omega arith) (omega arith)
     c.rewrite_columns.ensures change c.shift_row.ensures
-    (λ n. let e : n ≡ r.left + n - r.left = omega arith in ap (λ (m : ℕ). k.lifted (level_at c.args.fill (c.args.first + m))) e)
+    (λ n. let e : n ≡ left + n - left = omega arith in ap (λ (m : ℕ). k.lifted (level_at c.args.fill (c.args.first + m))) e)

@@ -1,17 +1,14 @@
-use Rattle.std.proofs.Common.{◌≡◌, ◌<◌, inl, inr, arith}
-use Rattle.sheet.specs.Table.{cell}
-use Rattle.sheet.proofs.Fills.{filled_more}
+use Rattle.std.proofs.Common.{◌-◌, refl, ◌∙◌, arith}
+use Rattle.sheet.proofs.Parts.{joined_at, part_long, in_part, row_part}
 use Rattle.sheet.proofs.rows.shift_row.Goals as goal
 
-pub loop-x-preserved : goal.loop-x-preserved
-loop-x-preserved g c =
+pub returns : goal.returns
+returns g c =
     let k = g.E.Entry in
     let s = c.args.stride in
-    let t = c.args.table.now in
-    let x = c.loop-x.x in
     let y = c.args.y in
-    let inv = c.loop-x.invariant in
-    let lt : x < s = omega arith in
-    let here = inv.others x y lt (inr (inl (omega arith))) in
-    let is : c.join.result ≡ k.joined (cell k s t x y) c.args.change = cc in
-    filled_more k s t y c.args.left _ x _ _ _ lt (omega arith) inv c.write.ensures is
+    let left = c.args.left in
+    let e = c.split_at_mut-lower.ensures in
+    let long = part_long k s y _ _ _ e.value e.front_len left s (omega arith) (omega arith) (omega arith) in
+    row_part k s y _ _ _ e.value e.front_len left s c.shift.new.row _ (omega arith) (omega arith) (omega arith) (c.shift.auto.row ∙ long)
+    (λ i lt. joined_at k (c.shift.ensures i (omega arith)) (in_part k s y _ _ _ e.value e.front_len left (s - left) i lt) refl)

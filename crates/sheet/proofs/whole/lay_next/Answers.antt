@@ -1,12 +1,14 @@
-use Rattle.std.proofs.Common.{◌≡◌, ◌+◌, length, arith}
-use Rattle.sheet.proofs.Calls.{next_laid}
-use Rattle.sheet.proofs.Places.{room}
+use Rattle.std.proofs.Common.{◌+◌, arith}
+use Rattle.sheet.specs.Page.{with_row}
+use Rattle.sheet.proofs.Calls.{laid_renewed, row_above, row_here}
+use Rattle.sheet.proofs.Laws.{group}
 use Rattle.sheet.proofs.whole.lay_next.Goals as goal
 
-pub lay_row-requires : goal.lay_row-requires
-lay_row-requires g c =
-    let long : length c.args.row.now ≡ c.args.width = omega arith in
-    rw long (room (c.args.width + 1) (c.args.y + 2) (c.args.height + 1) (length c.args.table.now) (omega arith) (omega arith))
-
 pub returns : goal.returns
-returns g c = next_laid g.E.Entry c.args.width c.args.height c.args.table.now c.lay_row.new.table c.args.y c.args.row.now (omega arith) (omega arith) c.lay_row.ensures
+returns g c =
+    let met = g.met.E.Entry in
+    let laws = group g.E.Entry met.associative met.commutative met.identity met.inverses in
+    let w = c.args.frame.width in
+    let y = c.args.y in
+    let row = c.args.row.now in
+    laid_renewed laws w c.args.frame.height y (y + 1) _ _ _ (omega arith) (omega arith) c.lay_rows.ensures (with_row y row) (row_above y row) (row_here w y row)

@@ -6,4 +6,4 @@ pub returns : goal.returns
 returns g c =
     let met = g.met.E.Entry in
     let laws = group g.E.Entry met.associative met.commutative met.identity met.inverses in
-    edit_law laws _ _ _ _ _ _ _ _ _ c.requires.on c.carry.ensures c.rewrite_rows.ensures c.carry-2.ensures
+    edit_law laws c.args.frame.width c.args.frame.height c.args.rect c.args.fill _ _ _ _ c.requires.on c.carry.ensures c.rewrite_rows.ensures c.carry-2.ensures

@@ -4,5 +4,8 @@ use Rattle.sheet.proofs.table.Table.corner.Goals as goal
 
 pub read-requires : goal.read-requires
 read-requires g c =
-    let t = c.args.self.now in
-    (omega arith, inside (t.width + 1) c.args.x c.args.y (t.height + 1) (length t.entries.now) (omega arith) (omega arith) (t.held (omega arith)))
+    let frame = c.args.self.now.frame in
+    record {
+      column = omega arith;
+      within = inside (frame.width + 1) c.args.x c.args.y (frame.height + 1) (length c.args.self.now.entries.now) (omega arith) (omega arith) (c.args.self.now.held (omega arith));
+    }
