@@ -99,8 +99,8 @@ impl Filter {
 
 // Whether the table has one more ink pixel at each ink pixel of the page.
 fn holds(table: &Table<'_, Ink>, ink: &InkPage) -> bool {
-    for y in 0..table.height {
-        for x in 0..table.width {
+    for y in 0..table.frame.height {
+        for x in 0..table.frame.width {
             let pixel = Rectangle {
                 left: x,
                 top: y,
@@ -174,11 +174,11 @@ pub(crate) fn ask_filter(
 ) {
     let filter = Filter::any(random);
     let shape = Shape::any(random);
-    let n = table.width.wrapping_mul(table.height);
+    let n = table.frame.width.wrapping_mul(table.frame.height);
     let needed = table
         .width
         .wrapping_add(1)
-        .wrapping_mul(table.height.wrapping_add(1));
+        .wrapping_mul(table.frame.height.wrapping_add(1));
     let room = n.wrapping_add(random.below(8)).wrapping_sub(1).min(ROOM);
     let entries = needed
         .wrapping_add(random.below(8))
@@ -188,11 +188,11 @@ pub(crate) fn ask_filter(
     let mut between = [Ink::lift(9); ENTRIES];
     let answer = filter.ask(table, &shape, &mut between[0..entries], &mut drawn[0..room]);
     let wanted = filter.answer(n, room, needed, entries, &shape);
-    let ink = InkPage::of(page, table.width, table.height);
+    let ink = InkPage::of(page, table.frame.width, table.frame.height);
     let middle = filter.between(&ink, &shape);
     let after = filter.after(page, &middle, &shape);
     let bytes = match wanted {
-        Ok(_) => bytes_of(&after, table.width, table.height),
+        Ok(_) => bytes_of(&after, table.frame.width, table.frame.height),
         Err(_) => [BEFORE; ROOM],
     };
     let two_steps = matches!(filter, Filter::Opening | Filter::Closing);
@@ -201,7 +201,7 @@ pub(crate) fn ask_filter(
     } else {
         None
     };
-    let memory = between_holds(&between, table.width, table.height, left, needed);
+    let memory = between_holds(&between, table.frame.width, table.frame.height, left, needed);
     score.note(
         wanted.is_err(),
         answer == wanted && drawn == bytes && memory,

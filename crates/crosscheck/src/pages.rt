@@ -92,7 +92,7 @@ pub(crate) fn ask_page(
     score: &mut Score,
 ) {
     let question = PageQuestion::any(random);
-    let n = table.width.wrapping_mul(table.height);
+    let n = table.frame.width.wrapping_mul(table.frame.height);
     // one in eight is too short
     let room = n.wrapping_add(random.below(8)).wrapping_sub(1).min(ROOM);
     let mut drawn = [BEFORE; ROOM];
@@ -100,10 +100,10 @@ pub(crate) fn ask_page(
     let wanted = question.answer(n, room);
     let mut bytes = [BEFORE; ROOM];
     if wanted.is_ok() {
-        for y in 0..table.height {
-            for x in 0..table.width {
-                let about = page.count_window(table.width, table.height, question.window(), x, y);
-                let at = y.wrapping_mul(table.width).wrapping_add(x);
+        for y in 0..table.frame.height {
+            for x in 0..table.frame.width {
+                let about = page.count_window(table.frame.width, table.frame.height, question.window(), x, y);
+                let at = y.wrapping_mul(table.frame.width).wrapping_add(x);
                 if at < ROOM {
                     bytes[at] = question.byte(page.level(x, y), about);
                 }

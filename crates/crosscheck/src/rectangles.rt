@@ -50,9 +50,9 @@ pub(crate) fn ask_total<T: Tally>(
     random: &mut Random,
     score: &mut Score,
 ) {
-    let rect = rectangle(table.width, table.height, random);
+    let rect = rectangle(table.frame.width, table.frame.height, random);
     let value = (measure.total(page, rect) & 0xffff_ffff) as u32;
-    let wanted = on_sheet_or(rect, table.width, table.height, value);
+    let wanted = on_sheet_or(rect, table.frame.width, table.frame.height, value);
     score.note(wanted.is_err(), total(table, rect) == wanted);
 }
 
@@ -62,8 +62,8 @@ pub(crate) fn ask_mean(
     random: &mut Random,
     score: &mut Score,
 ) {
-    let rect = rectangle(table.width, table.height, random);
-    let wanted = on_sheet_or(rect, table.width, table.height, page.count(rect).mean());
+    let rect = rectangle(table.frame.width, table.frame.height, random);
+    let wanted = on_sheet_or(rect, table.frame.width, table.frame.height, page.count(rect).mean());
     score.note(wanted.is_err(), mean(table, rect) == wanted);
 }
 
@@ -73,8 +73,8 @@ pub(crate) fn ask_spread(
     random: &mut Random,
     score: &mut Score,
 ) {
-    let rect = rectangle(table.width, table.height, random);
-    let wanted = on_sheet_or(rect, table.width, table.height, page.count(rect).spread());
+    let rect = rectangle(table.frame.width, table.frame.height, random);
+    let wanted = on_sheet_or(rect, table.frame.width, table.frame.height, page.count(rect).spread());
     score.note(wanted.is_err(), spread(table, rect) == wanted);
 }
 
@@ -116,7 +116,7 @@ pub(crate) fn ask_laterals<T: WideTally>(
     random: &mut Random,
     score: &mut Score,
 ) {
-    let rect = rectangle(table.width, table.height, random);
+    let rect = rectangle(table.frame.width, table.frame.height, random);
     let row_count = strips(rect.top, rect.bottom);
     let column_count = strips(rect.left, rect.right);
     let row_room = random.below(9).max(row_count).min(SIDE);
@@ -130,7 +130,7 @@ pub(crate) fn ask_laterals<T: WideTally>(
         &mut columns[0..column_room],
     );
     let fits = row_count <= row_room && column_count <= column_room;
-    let wanted = match pixels_of(rect, table.width, table.height) {
+    let wanted = match pixels_of(rect, table.frame.width, table.frame.height) {
         Err(refusal) => Err(refusal),
         Ok(_) if fits => Ok(row_count.wrapping_add(column_count)),
         Ok(_) => Err(Refusal::ListTooShort),

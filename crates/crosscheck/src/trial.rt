@@ -110,7 +110,7 @@ fn wipe<E: Entry>(
     rect: Rectangle,
     level: u8,
 ) -> Edited {
-    let wanted = pixels_of(rect, sheet.table().width, sheet.table().height);
+    let wanted = pixels_of(rect, sheet.table().frame.width, sheet.table().frame.height);
     let same = sheet.wipe(rect, level) == wanted;
     if wanted.is_ok() {
         for y in rect.top..=rect.bottom {
@@ -148,8 +148,8 @@ fn patch<E: Entry>(
 ) -> Edited {
     let wanted = patch_answer(
         rect,
-        sheet.table().width,
-        sheet.table().height,
+        sheet.table().frame.width,
+        sheet.table().frame.height,
         levels.len(),
     );
     let same = sheet.patch(rect, levels) == wanted;

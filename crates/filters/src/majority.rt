@@ -28,7 +28,7 @@ impl Shade for Majority {
 
 // Draws ink where more than half of the pixels of the window are ink, and answers how many pixels there are.
 pub fn median(table: &Table<'_, Ink>, window: Window, page: &mut [u8]) -> Result<usize, Refusal>
-    ensures page { Drawn (room_answer table.now.width table.now.height (length page.old)) table.now.width table.now.height (window_byte ink ink_numbers majority table.now.width table.now.height table.now.entries.now window) result page.old page.new }
+    ensures page { Drawn (room_answer table.now.frame.width table.now.frame.height (length page.old)) table.now.frame.width table.now.frame.height (window_byte ink ink_numbers majority table.now.frame.width table.now.frame.height table.now.entries.now window) result page.old page.new }
     ensures law { MedianLaw }
     ensures laws { FilterLaws }
 {

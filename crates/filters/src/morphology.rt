@@ -17,7 +17,7 @@ use sheet::Table;
 
 // Draws ink where every element pixel on the sheet is ink, and answers how many pixels there are.
 pub fn erosion(table: &Table<'_, Ink>, element: &Element, page: &mut [u8]) -> Result<usize, Refusal>
-    ensures page { Drawn (step_answer table.now.width table.now.height (length page.old) (rectangles_of element.now)) table.now.width table.now.height (step_byte Erode table.now.width table.now.height table.now.entries.now (rectangles_of element.now)) result page.old page.new }
+    ensures page { Drawn (step_answer table.now.frame.width table.now.frame.height (length page.old) (rectangles_of element.now)) table.now.frame.width table.now.frame.height (step_byte Erode table.now.frame.width table.now.frame.height table.now.entries.now (rectangles_of element.now)) result page.old page.new }
     ensures law { StepLaw }
     ensures laws { FilterLaws }
 {
@@ -32,7 +32,7 @@ pub fn dilation(
     element: &Element,
     page: &mut [u8],
 ) -> Result<usize, Refusal>
-    ensures page { Drawn (step_answer table.now.width table.now.height (length page.old) (rectangles_of element.now)) table.now.width table.now.height (step_byte Dilate table.now.width table.now.height table.now.entries.now (rectangles_of element.now)) result page.old page.new }
+    ensures page { Drawn (step_answer table.now.frame.width table.now.frame.height (length page.old) (rectangles_of element.now)) table.now.frame.width table.now.frame.height (step_byte Dilate table.now.frame.width table.now.frame.height table.now.entries.now (rectangles_of element.now)) result page.old page.new }
     ensures law { StepLaw }
     ensures laws { FilterLaws }
 {
@@ -48,7 +48,7 @@ pub fn opening(
     between: &mut [Ink],
     page: &mut [u8],
 ) -> Result<usize, Refusal>
-    ensures steps { TwoSteps Erode Dilate table.now.width table.now.height table.now.entries.now (rectangles_of element.now) result between.old between.new page.old page.new }
+    ensures steps { TwoSteps Erode Dilate table.now.frame.width table.now.frame.height table.now.entries.now (rectangles_of element.now) result between.old between.new page.old page.new }
     ensures law { TwoStepLaw }
     ensures laws { FilterLaws }
 {
@@ -66,7 +66,7 @@ pub fn closing(
     between: &mut [Ink],
     page: &mut [u8],
 ) -> Result<usize, Refusal>
-    ensures steps { TwoSteps Dilate Erode table.now.width table.now.height table.now.entries.now (rectangles_of element.now) result between.old between.new page.old page.new }
+    ensures steps { TwoSteps Dilate Erode table.now.frame.width table.now.frame.height table.now.entries.now (rectangles_of element.now) result between.old between.new page.old page.new }
     ensures law { TwoStepLaw }
     ensures laws { FilterLaws }
 {

@@ -12,7 +12,7 @@ use sheet::Table;
 
 // Whether one rectangle settles the pixel: in an erosion one that is not all ink, in a dilation one that is seen from ink.
 fn settles(step: Step, table: &Table<'_, Ink>, offsets: Offsets, x: u16, y: u16) -> bool
-    ensures { result ≡ settles step table.now.width table.now.height table.now.entries.now offsets x y }
+    ensures { result ≡ settles step table.now.frame.width table.now.frame.height table.now.entries.now offsets x y }
 {
     match step {
         Step::Erode => {
@@ -28,7 +28,7 @@ fn settles(step: Step, table: &Table<'_, Ink>, offsets: Offsets, x: u16, y: u16)
 
 // Whether one of the rectangles does.
 fn is_settled(step: Step, table: &Table<'_, Ink>, element: &[Offsets], x: u16, y: u16) -> bool
-    ensures { result ≡ settled step table.now.width table.now.height table.now.entries.now element.now x y }
+    ensures { result ≡ settled step table.now.frame.width table.now.frame.height table.now.entries.now element.now x y }
 {
     for offsets in element {
         if settles(step, table, *offsets, x, y) {
@@ -47,18 +47,18 @@ struct Stepped<'a, 'b, 'c> {
 }
 
 impl<'a, 'b, 'c> Raster for Stepped<'a, 'b, 'c> {
-    ghost wide = { λ s. s.table.now.width };
+    ghost wide = { λ s. s.table.now.frame.width };
 
-    ghost tall = { λ s. s.table.now.height };
+    ghost tall = { λ s. s.table.now.frame.height };
 
-    ghost byte = { λ s x y. step_byte s.step s.table.now.width s.table.now.height s.table.now.entries.now s.element.now x y };
+    ghost byte = { λ s x y. step_byte s.step s.table.now.frame.width s.table.now.frame.height s.table.now.entries.now s.element.now x y };
 
     fn width(&self) -> u16 {
-        self.table.width as u16
+        self.table.frame.width as u16
     }
 
     fn height(&self) -> u16 {
-        self.table.height as u16
+        self.table.frame.height as u16
     }
 
     fn at(&self, x: u16, y: u16) -> u8 {
@@ -77,7 +77,7 @@ pub(crate) fn draw_step(
     element: &[Offsets],
     page: &mut [u8],
 ) -> Result<usize, Refusal>
-    ensures { Drawn (step_answer table.now.width table.now.height (length page.old) element.now) table.now.width table.now.height (step_byte step table.now.width table.now.height table.now.entries.now element.now) result page.old page.new }
+    ensures { Drawn (step_answer table.now.frame.width table.now.frame.height (length page.old) element.now) table.now.frame.width table.now.frame.height (step_byte step table.now.frame.width table.now.frame.height table.now.entries.now element.now) result page.old page.new }
 {
     let stepped = Stepped {
         table,

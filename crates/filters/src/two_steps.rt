@@ -31,16 +31,16 @@ pub(crate) fn draw_two_steps(
     between: &mut [Ink],
     page: &mut [u8],
 ) -> Result<usize, Refusal>
-    ensures { TwoSteps first second table.now.width table.now.height table.now.entries.now element.now result between.old between.new page.old page.new }
+    ensures { TwoSteps first second table.now.frame.width table.now.frame.height table.now.entries.now element.now result between.old between.new page.old page.new }
 {
-    if between.len() < table_size(table.width, table.height) {
+    if between.len() < table_size(table.frame.width, table.frame.height) {
         return Err(Refusal::TableTooShort);
     }
     let n = draw_step(first, table, element, page)?;
-    if table.height == 0 {
+    if table.frame.height == 0 {
         return Ok(n);
     }
-    lay_page(between, table.width, table.height, &page[0..n])?;
-    let middle = Table::of(between, table.width, table.height)?;
+    lay_page(between, table.frame.width, table.frame.height, &page[0..n])?;
+    let middle = Table::of(between, table.frame.width, table.frame.height)?;
     draw_step(second, &middle, element, page)
 }

@@ -61,7 +61,7 @@ fn fixed_ink_law()
 
 // Draws ink where the level is below the threshold, and answers how many pixels there are.
 pub fn fixed_ink(table: &Table<'_, Whole>, threshold: u8, page: &mut [u8]) -> Result<usize, Refusal>
-    ensures page { Drawn (room_answer table.now.width table.now.height (length page.old)) table.now.width table.now.height (window_byte whole whole_numbers (fixed_ink threshold) table.now.width table.now.height table.now.entries.now point) result page.old page.new }
+    ensures page { Drawn (room_answer table.now.frame.width table.now.frame.height (length page.old)) table.now.frame.width table.now.frame.height (window_byte whole whole_numbers (fixed_ink threshold) table.now.frame.width table.now.frame.height table.now.entries.now point) result page.old page.new }
     ensures law { (t : ℕ) → RuleLaw (fixed_ink t) (fixed_ink t) }
 {
     fixed_ink_law();
@@ -87,7 +87,7 @@ pub fn share_ink(
     percent: u8,
     page: &mut [u8],
 ) -> Result<usize, Refusal>
-    ensures page { Drawn (share_answer percent table.now.width table.now.height (length page.old)) table.now.width table.now.height (window_byte whole whole_numbers (share_ink percent) table.now.width table.now.height table.now.entries.now window) result page.old page.new }
+    ensures page { Drawn (share_answer percent table.now.frame.width table.now.frame.height (length page.old)) table.now.frame.width table.now.frame.height (window_byte whole whole_numbers (share_ink percent) table.now.frame.width table.now.frame.height table.now.entries.now window) result page.old page.new }
     ensures law { (p : ℕ) → RuleLaw (share_ink p) (share_ink p) }
 {
     share_ink_law();

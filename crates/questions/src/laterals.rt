@@ -69,7 +69,7 @@ fn lay_totals<T: WideTally>(
     totals: &mut [u32],
 )
     requires { (on_sheet 4096 4096 rect ≡ true) × ((strip_count strips rect ≤ length totals.old) × (strip_count strips rect ≤ 4096)) }
-    ensures { totals.new ≡ laid (strip_total T.Entry T.Modular.own table.now.width table.now.height table.now.entries.now strips rect) (strip_count strips rect) totals.old }
+    ensures { totals.new ≡ laid (strip_total T.Entry T.Modular.own table.now.frame.width table.now.frame.height table.now.entries.now strips rect) (strip_count strips rect) totals.old }
 {
     for i in 0..strips.count(rect) {
         totals[i] = table
@@ -90,11 +90,11 @@ pub fn lateral_totals<T: WideTally>(
     rows: &mut [u32],
     columns: &mut [u32],
 ) -> Result<usize, Refusal>
-    ensures lists { LateralsLaid T.Entry T.Modular.own table.now.width table.now.height table.now.entries.now rect result rows.old columns.old rows.new columns.new }
+    ensures lists { LateralsLaid T.Entry T.Modular.own table.now.frame.width table.now.frame.height table.now.entries.now rect result rows.old columns.old rows.new columns.new }
     ensures law { LateralLaw T.Entry T.Modular.own }
 {
     lateral_law::<T>();
-    if !rect.is_on(table.width, table.height) {
+    if !rect.is_on(table.frame.width, table.frame.height) {
         return Err(Refusal::OffSheet);
     }
     let row_count = Strips::Rows.count(rect);

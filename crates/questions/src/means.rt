@@ -35,7 +35,7 @@ fn mean_law()
 
 // The mean level of a rectangle.
 pub fn mean(table: &Table<'_, Whole>, rect: Rectangle) -> Result<u64, Refusal>
-    ensures answer { told result ≡ mean_answer table.now.width table.now.height table.now.entries.now rect }
+    ensures answer { told result ≡ mean_answer table.now.frame.width table.now.frame.height table.now.entries.now rect }
     ensures law { MeanLaw }
 {
     mean_law();
@@ -69,7 +69,7 @@ pub fn mean_page(
     window: Window,
     page: &mut [u8],
 ) -> Result<usize, Refusal>
-    ensures page { Drawn (room_answer table.now.width table.now.height (length page.old)) table.now.width table.now.height (window_byte whole whole_numbers mean_byte table.now.width table.now.height table.now.entries.now window) result page.old page.new }
+    ensures page { Drawn (room_answer table.now.frame.width table.now.frame.height (length page.old)) table.now.frame.width table.now.frame.height (window_byte whole whole_numbers mean_byte table.now.frame.width table.now.frame.height table.now.entries.now window) result page.old page.new }
     ensures law { RuleLaw mean_byte (λ level total count. rounded_mean total count) }
 {
     mean_page_law();

@@ -36,7 +36,7 @@ fn spread_law()
 
 // The number of pixels of a rectangle times the sum of their squared levels, less the square of the sum of their levels.
 pub fn spread(table: &Table<'_, Pair<Whole, Energy>>, rect: Rectangle) -> Result<u64, Refusal>
-    ensures answer { told result ≡ spread_answer table.now.width table.now.height table.now.entries.now rect }
+    ensures answer { told result ≡ spread_answer table.now.frame.width table.now.frame.height table.now.entries.now rect }
     ensures law { SpreadLaw }
 {
     spread_law();

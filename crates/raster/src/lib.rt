@@ -2,17 +2,17 @@
 #![tactic(auto)]
 
 mod cut;
+mod drawing;
 mod laws;
 mod neighbourhood;
 mod offsets;
-mod raster;
 mod region;
 mod windowed;
 
 pub use cut::Cut;
+pub use drawing::{draw, room};
 pub use laws::regions_are_exact;
 pub use neighbourhood::Neighbourhood;
 pub use offsets::{Offsets, Window};
-pub use raster::{Raster, draw, room};
 pub use region::{cut_at, reflected_cut_at};
-pub use windowed::{POINT, Shade, Windowed, neighbourhood_at};
+pub use windowed::{POINT, draw_windowed, neighbourhood_at};

@@ -27,8 +27,7 @@ fn first_from(from: i32, x: u16) -> usize
     requires { (negsuc 65535 ≤ℤ from) × (from ≤ℤ pos 65536) }
     ensures { result ≡ first_from (pos x +ℤ from) }
 {
-    let z = x as i32 + from;
-    if z < 0 { 0 } else { z as usize }
+    usize::try_from(i32::from(x) + from).unwrap_or(0)
 }
 
 // The first number above x + to.
@@ -36,28 +35,28 @@ fn first_above(to: i32, x: u16) -> usize
     requires { (negsuc 65535 ≤ℤ to) × (to ≤ℤ pos 65536) }
     ensures { result ≡ first_above (pos x +ℤ to) }
 {
-    let z = x as i32 + to;
-    if z < 0 { 0 } else { z as usize + 1 }
+    usize::try_from(i32::from(x) + to).map_or(0, |n| n + 1)
 }
 
 // The numbers from x + from to x + to.
-fn span(from: i16, to: i16, x: u16) -> Span
+fn span(from: i32, to: i32, x: u16) -> Span
+    requires from { (negsuc 65535 ≤ℤ from) × (from ≤ℤ pos 65536) }
+    requires to { (negsuc 65535 ≤ℤ to) × (to ≤ℤ pos 65536) }
     ensures { result ≡ span_at from to x }
 {
     Span {
-        start: first_from(from as i32, x),
-        end: first_above(to as i32, x),
+        start: first_from(from, x),
+        end: first_above(to, x),
     }
 }
 
-// The numbers from x - to to x - from.
-fn reflected_span(from: i16, to: i16, x: u16) -> Span
-    ensures { result ≡ span_at (neg_ℤ to) (neg_ℤ from) x }
+// The offset to the other side.
+fn opposite(offset: i16) -> i32
+    ensures value { result ≡ neg_ℤ offset }
+    ensures low { negsuc 32766 ≤ℤ result }
+    ensures high { result ≤ℤ pos 32768 }
 {
-    Span {
-        start: first_from(-(to as i32), x),
-        end: first_above(-(from as i32), x),
-    }
+    -i32::from(offset)
 }
 
 impl Offsets {
@@ -65,40 +64,40 @@ impl Offsets {
     pub(crate) fn columns(self, x: u16) -> Span
         ensures { result ≡ columns_at self x }
     {
-        span(self.left, self.right, x)
+        span(i32::from(self.left), i32::from(self.right), x)
     }
 
     // The rows of the rectangle at row `y`.
     pub(crate) fn rows(self, y: u16) -> Span
         ensures { result ≡ rows_at self y }
     {
-        span(self.up, self.down, y)
+        span(i32::from(self.up), i32::from(self.down), y)
     }
 
     // The columns whose rectangles cover column `x`.
     pub(crate) fn reflected_columns(self, x: u16) -> Span
         ensures { result ≡ columns_at (reflected self) x }
     {
-        reflected_span(self.left, self.right, x)
+        span(opposite(self.right), opposite(self.left), x)
     }
 
     // The rows whose rectangles cover row `y`.
     pub(crate) fn reflected_rows(self, y: u16) -> Span
         ensures { result ≡ rows_at (reflected self) y }
     {
-        reflected_span(self.up, self.down, y)
+        span(opposite(self.down), opposite(self.up), y)
     }
 }
 
-impl Window {
-    pub fn offsets(self) -> Offsets
-        ensures { result ≡ window_offsets self }
-    {
+impl From<Window> for Offsets {
+    ghost from_gives = { λ window offsets. offsets ≡ window_offsets window };
+
+    fn from(window: Window) -> Offsets {
         Offsets {
-            left: -(self.left as i16),
-            right: self.right as i16,
-            up: -(self.up as i16),
-            down: self.down as i16,
+            left: -i16::from(window.left),
+            right: i16::from(window.right),
+            up: -i16::from(window.up),
+            down: i16::from(window.down),
         }
     }
 }
