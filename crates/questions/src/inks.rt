@@ -4,29 +4,31 @@ ghost use Rattle.entry.specs.Kinds.{whole};
 ghost use Rattle.entry.specs.Numbers.{whole_numbers};
 ghost use Rattle.questions.specs.Inks.{fixed_ink, share_answer, share_ink};
 ghost use Rattle.questions.specs.Windows.{RuleLaw};
-ghost use Rattle.raster.specs.Drawn.{room_answer, Drawn};
+ghost use Rattle.raster.specs.Drawn.{Drawn, Pictured};
 ghost use Rattle.raster.specs.Region.{point, window_byte};
+ghost use Rattle.sheet.specs.View.{of_table};
 
 use entry::Whole;
 use entry::kinds::whole::*;
-use raster::{
-    Neighbourhood, POINT, Raster, Shade, Window, Windowed, draw, regions_are_exact, room,
-};
+use raster::{Neighbourhood, POINT, Window, draw_windowed, regions_are_exact, room};
 use refusal::Refusal;
 use sheet::Table;
 
-// Ink where the level is below a fixed one.
-#[derive(Clone, Copy)]
-struct Below {
-    threshold: u8,
+// What a rule is given on the table of any page; no code runs.
+fn fixed_ink_law()
+    ensures { (t : ℕ) → RuleLaw (fixed_ink t) (fixed_ink t) }
+{
+    regions_are_exact::<Whole>();
 }
 
-impl Shade for Below {
-    ghost shaded = { λ s. fixed_ink s.threshold };
-
-    fn shade(self, about: Neighbourhood) -> u8 {
-        u8::from(about.level < u32::from(self.threshold))
-    }
+// Draws ink where the level is below the threshold, and answers how many pixels there are.
+pub fn fixed_ink(table: &Table<'_, Whole>, threshold: u8, page: &mut [u8]) -> Result<usize, Refusal>
+    ensures page { Pictured table.now.frame (of_table table.now (window_byte whole whole_numbers (fixed_ink threshold)) point) result page.old page.new }
+    ensures law { (t : ℕ) → RuleLaw (fixed_ink t) (fixed_ink t) }
+{
+    fixed_ink_law();
+    let below = move |about: Neighbourhood| u8::from(about.level < u32::from(threshold));
+    draw_windowed(table, POINT, below, page)
 }
 
 // What `count` pixels of this level have together, in hundredths.
@@ -38,39 +40,11 @@ fn hundredfold(level: u32, count: usize) -> u64
 }
 
 // Ink where the level lies so many percent below the mean of the window.
-#[derive(Clone, Copy)]
-struct Darker {
-    percent: u8,
-}
-
-impl Shade for Darker {
-    ghost shaded = { λ s. share_ink s.percent };
-
-    fn shade(self, about: Neighbourhood) -> u8 {
-        let share = u64::from(100u8.saturating_sub(self.percent));
-        u8::from(hundredfold(about.level, about.count) < u64::from(about.total) * share)
-    }
-}
-
-// What a rule is given on the table of any page; no code runs.
-fn fixed_ink_law()
-    ensures { (t : ℕ) → RuleLaw (fixed_ink t) (fixed_ink t) }
+fn darker(about: Neighbourhood, percent: u8) -> u8
+    ensures { result ≡ share_ink percent about.level about.total about.count }
 {
-    regions_are_exact::<Whole>();
-}
-
-// Draws ink where the level is below the threshold, and answers how many pixels there are.
-pub fn fixed_ink(table: &Table<'_, Whole>, threshold: u8, page: &mut [u8]) -> Result<usize, Refusal>
-    ensures page { Drawn (room_answer table.now.frame.width table.now.frame.height (length page.old)) table.now.frame.width table.now.frame.height (window_byte whole whole_numbers (fixed_ink threshold) table.now.frame.width table.now.frame.height table.now.entries.now point) result page.old page.new }
-    ensures law { (t : ℕ) → RuleLaw (fixed_ink t) (fixed_ink t) }
-{
-    fixed_ink_law();
-    let ink = Windowed {
-        table,
-        window: POINT,
-        rule: Below { threshold },
-    };
-    draw(&ink, page)
+    let share = u64::from(100u8.saturating_sub(percent));
+    u8::from(hundredfold(about.level, about.count) < u64::from(about.total) * share)
 }
 
 // What a rule is given on the table of any page; no code runs.
@@ -87,18 +61,13 @@ pub fn share_ink(
     percent: u8,
     page: &mut [u8],
 ) -> Result<usize, Refusal>
-    ensures page { Drawn (share_answer percent table.now.frame.width table.now.frame.height (length page.old)) table.now.frame.width table.now.frame.height (window_byte whole whole_numbers (share_ink percent) table.now.frame.width table.now.frame.height table.now.entries.now window) result page.old page.new }
+    ensures page { Drawn (share_answer percent table.now.frame.width table.now.frame.height (length page.old)) table.now.frame.width table.now.frame.height (of_table table.now (window_byte whole whole_numbers (share_ink percent)) window) result page.old page.new }
     ensures law { (p : ℕ) → RuleLaw (share_ink p) (share_ink p) }
 {
     share_ink_law();
-    let ink = Windowed {
-        table,
-        window,
-        rule: Darker { percent },
-    };
-    room(&ink, page)?;
+    room(table.frame, page)?;
     if percent > 100 {
         return Err(Refusal::Share);
     }
-    draw(&ink, page)
+    draw_windowed(table, window, move |about| darker(about, percent), page)
 }

@@ -1,8 +1,9 @@
 // Totals of each row and each column of a rectangle.
-ghost use Rattle.std.specs.Prelude.{◌≡◌, ◌+◌, ◌<◌, ◌≤◌, true, length};
+ghost use Rattle.std.specs.Prelude.{◌≡◌, ℕ, ◌+◌, ◌<◌, ◌≤◌, true, length, slice_index};
 ghost use Rattle.questions.specs.Laterals.{strip_columns, strip_count, strip_rows, strip_total, LateralLaw, LateralsLaid};
 ghost use Rattle.raster.specs.Drawn.{laid};
 ghost use Rattle.sheet.specs.Page.{on_sheet};
+ghost use Rattle.sheet.specs.View.{of_table};
 
 use entry::{Entry, Modular, Tally, WideTally};
 use refusal::Refusal;
@@ -28,7 +29,8 @@ impl Strips {
 
     // The columns of strip `i`.
     fn columns(self, rect: Rectangle, i: usize) -> Span
-        requires { (on_sheet 4096 4096 rect ≡ true) × (i < 4096) }
+        requires on { on_sheet 4096 4096 rect ≡ true }
+        requires few { i < 4096 }
         ensures { result ≡ strip_columns self rect i }
     {
         match self {
@@ -45,7 +47,8 @@ impl Strips {
 
     // The rows of strip `i`.
     fn rows(self, rect: Rectangle, i: usize) -> Span
-        requires { (on_sheet 4096 4096 rect ≡ true) × (i < 4096) }
+        requires on { on_sheet 4096 4096 rect ≡ true }
+        requires few { i < 4096 }
         ensures { result ≡ strip_rows self rect i }
     {
         match self {
@@ -61,6 +64,24 @@ impl Strips {
     }
 }
 
+// Makes each number the total of its strip.
+fn total_strips<T: WideTally>(
+    table: &Table<'_, T>,
+    rect: Rectangle,
+    strips: Strips,
+    totals: &mut [u32],
+)
+    requires on { on_sheet 4096 4096 rect ≡ true }
+    requires few { length totals.old ≤ 4096 }
+    ensures { (i : ℕ) → i < length totals.old → slice_index totals.new i ≡ of_table table.now (strip_total T.Entry T.Modular.own) strips rect i }
+{
+    for (i, total) in totals.iter_mut().enumerate() {
+        *total = table
+            .cut_sum(strips.columns(rect, i), strips.rows(rect, i))
+            .value();
+    }
+}
+
 // Writes the total of each strip to the front of the list.
 fn lay_totals<T: WideTally>(
     table: &Table<'_, T>,
@@ -68,14 +89,12 @@ fn lay_totals<T: WideTally>(
     strips: Strips,
     totals: &mut [u32],
 )
-    requires { (on_sheet 4096 4096 rect ≡ true) × ((strip_count strips rect ≤ length totals.old) × (strip_count strips rect ≤ 4096)) }
-    ensures { totals.new ≡ laid (strip_total T.Entry T.Modular.own table.now.frame.width table.now.frame.height table.now.entries.now strips rect) (strip_count strips rect) totals.old }
+    requires on { on_sheet 4096 4096 rect ≡ true }
+    requires room { strip_count strips rect ≤ length totals.old }
+    ensures { totals.new ≡ laid (of_table table.now (strip_total T.Entry T.Modular.own) strips rect) (strip_count strips rect) totals.old }
 {
-    for i in 0..strips.count(rect) {
-        totals[i] = table
-            .cut_sum(strips.columns(rect, i), strips.rows(rect, i))
-            .value();
-    }
+    let count = strips.count(rect);
+    total_strips(table, rect, strips, &mut totals[0..count]);
 }
 
 // What lateral totals are on the table of any page; no code runs.
@@ -90,7 +109,7 @@ pub fn lateral_totals<T: WideTally>(
     rows: &mut [u32],
     columns: &mut [u32],
 ) -> Result<usize, Refusal>
-    ensures lists { LateralsLaid T.Entry T.Modular.own table.now.frame.width table.now.frame.height table.now.entries.now rect result rows.old columns.old rows.new columns.new }
+    ensures lists { of_table table.now (LateralsLaid T.Entry T.Modular.own) rect result rows.old columns.old rows.new columns.new }
     ensures law { LateralLaw T.Entry T.Modular.own }
 {
     lateral_law::<T>();

@@ -1,17 +1,18 @@
 // Means of rectangles and windows.
-ghost use Rattle.std.specs.Prelude.{◌≡◌, length};
+ghost use Rattle.std.specs.Prelude.{◌≡◌};
 ghost use Rattle.entry.specs.Kinds.{whole};
 ghost use Rattle.entry.specs.Numbers.{whole_numbers};
 ghost use Rattle.questions.specs.Means.{mean_answer, mean_byte, rounded_mean, MeanLaw};
 ghost use Rattle.questions.specs.Windows.{RuleLaw};
-ghost use Rattle.raster.specs.Drawn.{room_answer, Drawn};
+ghost use Rattle.raster.specs.Drawn.{Pictured};
 ghost use Rattle.raster.specs.Region.{window_byte};
 ghost use Rattle.refusal.specs.Answers.{told};
+ghost use Rattle.sheet.specs.View.{of_table};
 
 use crate::totals::total_laws;
 use entry::kinds::whole::*;
 use entry::{Tally, Whole};
-use raster::{Neighbourhood, Raster, Shade, Window, Windowed, draw, regions_are_exact};
+use raster::{Neighbourhood, Window, draw_windowed, regions_are_exact};
 use refusal::Refusal;
 use sheet::{Rectangle, Table};
 
@@ -19,11 +20,10 @@ use sheet::{Rectangle, Table};
 fn rounded_mean(total: u32, n: usize) -> u64
     ensures { result ≡ rounded_mean total n }
 {
-    if n == 0 {
-        return 0;
-    }
     let count = n as u64;
-    (total as u64 + count / 2) / count
+    (u64::from(total) + count / 2)
+        .checked_div(count)
+        .unwrap_or(0)
 }
 
 // What means are on the table of any page; no code runs.
@@ -35,7 +35,7 @@ fn mean_law()
 
 // The mean level of a rectangle.
 pub fn mean(table: &Table<'_, Whole>, rect: Rectangle) -> Result<u64, Refusal>
-    ensures answer { told result ≡ mean_answer table.now.frame.width table.now.frame.height table.now.entries.now rect }
+    ensures answer { told result ≡ of_table table.now mean_answer rect }
     ensures law { MeanLaw }
 {
     mean_law();
@@ -45,15 +45,10 @@ pub fn mean(table: &Table<'_, Whole>, rect: Rectangle) -> Result<u64, Refusal>
 }
 
 // The mean of the window, which is a byte on every page.
-#[derive(Clone, Copy)]
-struct MeanLevel;
-
-impl Shade for MeanLevel {
-    ghost shaded = { λ s. mean_byte };
-
-    fn shade(self, about: Neighbourhood) -> u8 {
-        rounded_mean(about.total, about.count).min(255) as u8
-    }
+fn mean_level(about: Neighbourhood) -> u8
+    ensures { result ≡ mean_byte about.level about.total about.count }
+{
+    u8::try_from(rounded_mean(about.total, about.count)).unwrap_or(u8::MAX)
 }
 
 // What the mean page is on the table of any page; no code runs.
@@ -69,14 +64,9 @@ pub fn mean_page(
     window: Window,
     page: &mut [u8],
 ) -> Result<usize, Refusal>
-    ensures page { Drawn (room_answer table.now.frame.width table.now.frame.height (length page.old)) table.now.frame.width table.now.frame.height (window_byte whole whole_numbers mean_byte table.now.frame.width table.now.frame.height table.now.entries.now window) result page.old page.new }
+    ensures page { Pictured table.now.frame (of_table table.now (window_byte whole whole_numbers mean_byte) window) result page.old page.new }
     ensures law { RuleLaw mean_byte (λ level total count. rounded_mean total count) }
 {
     mean_page_law();
-    let means = Windowed {
-        table,
-        window,
-        rule: MeanLevel,
-    };
-    draw(&means, page)
+    draw_windowed(table, window, mean_level, page)
 }

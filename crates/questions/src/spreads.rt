@@ -3,6 +3,7 @@ ghost use Rattle.std.specs.Prelude.{◌≡◌};
 ghost use Rattle.questions.specs.Spreads.{spread_answer, spread_of, SpreadLaw};
 ghost use Rattle.refusal.specs.Answers.{told};
 ghost use Rattle.sheet.specs.Sheet.{SumLaw};
+ghost use Rattle.sheet.specs.View.{of_table};
 
 use entry::kinds::energy::*;
 use entry::kinds::pair::*;
@@ -16,9 +17,9 @@ use sheet::{Rectangle, Table};
 fn spread_of(n: usize, energy: u64, total: u32) -> u64
     ensures { result ≡ spread_of n energy total }
 {
-    let squares = n as u128 * energy as u128;
-    let square = total as u128 * total as u128;
-    squares.saturating_sub(square).min(u64::MAX as u128) as u64
+    let squares = n as u128 * u128::from(energy);
+    let square = u128::from(total) * u128::from(total);
+    u64::try_from(squares.saturating_sub(square)).unwrap_or(u64::MAX)
 }
 
 // What sums are on the table of any levels; no code runs.
@@ -36,7 +37,7 @@ fn spread_law()
 
 // The number of pixels of a rectangle times the sum of their squared levels, less the square of the sum of their levels.
 pub fn spread(table: &Table<'_, Pair<Whole, Energy>>, rect: Rectangle) -> Result<u64, Refusal>
-    ensures answer { told result ≡ spread_answer table.now.frame.width table.now.frame.height table.now.entries.now rect }
+    ensures answer { told result ≡ of_table table.now spread_answer rect }
     ensures law { SpreadLaw }
 {
     spread_law();

@@ -3,7 +3,7 @@ ghost use Rattle.std.specs.Prelude.{◌≡◌};
 ghost use Rattle.questions.specs.Totals.{total_answer, TotalLaw};
 ghost use Rattle.refusal.specs.Answers.{told};
 ghost use Rattle.sheet.specs.Run.{RunsAgree};
-ghost use Rattle.sheet.specs.View.{width_of, height_of, entries_of};
+ghost use Rattle.sheet.specs.View.{of_table};
 
 use entry::{Modular, Tally};
 use refusal::Refusal;
@@ -17,7 +17,7 @@ pub(crate) fn total_laws<T: Tally>()
 
 // The sum of a rectangle as a number: of its levels on narrow and whole sheets, of its ink pixels on ink sheets.
 pub fn total<T: Tally>(table: &Table<'_, T>, rect: Rectangle) -> Result<u32, Refusal>
-    ensures answer { told result ≡ total_answer T.Entry T.Modular.own (width_of table.now) (height_of table.now) (entries_of table.now) rect }
+    ensures answer { told result ≡ of_table table.now (total_answer T.Entry T.Modular.own) rect }
     ensures law { TotalLaw T.Entry T.Modular.own }
     ensures runs { RunsAgree T.Entry }
 {

@@ -26,6 +26,14 @@ module _ (f : ℕ → ℕ) (n : ℕ) (old : List ℕ) where
             rest i ge ∙ sym (get_or-append_right front (drop n old) n i 0 (length-map-range_with_len f 0 n) ge ∙ get_or-drop n old (i - n) 0 ∙ ap (λ m. get_or old m 0) at)
       ])
 
+  -- a part that is written in front of a list
+  pub laid_part : (m : ℕ) (part : List ℕ) → m ≡ n → length part ≡ m → n ≤ length old → ((i : ℕ) → i < n → get_or part i 0 ≡ f i) → part ++ drop m (drop 0 old) ≡ laid f n old
+  laid_part m part same long room is =
+      let so = spliced old part 0 m long (omega arith) in
+      laid_front (part ++ drop m (drop 0 old)) room so.long
+      (λ i lt. ap (λ j. get_or (part ++ drop m (drop 0 old)) j 0) (let z : i ≡ 0 + i = omega arith in z) ∙ so.here i 0 (omega arith) ∙ is i lt)
+      (λ i ge. so.others i 0 (inr (omega arith)))
+
 -- one row more
 pub row_more : (gives : (x y r : ℕ) → Type 0) (w y n : ℕ) (old page row : List ℕ) → n ≡ w → length row ≡ n → y * w + w ≤ length page → ((x : ℕ) → x < w → gives x y (get_or row x 0)) → RowsDrawn gives w y old page →
     RowsDrawn gives w (y + 1) old (take (y * w) page ++ (row ++ drop n (drop (y * w) page)))

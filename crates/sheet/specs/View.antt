@@ -26,5 +26,5 @@ abbrev pub Viewed : {E : Type 0} → List E → (width height : ℕ) → Result 
 Viewed memory width height r = answer_of shown (λ e. e) (λ e. 0) r ≡ view_answer memory width height
 
 -- what a function of sizes and entries says of a table
-abbrev pub of_table : {E A : Type 0} → Table E → ((width height : ℕ) → List E → A) → A
+abbrev pub of_table {ℓ} : {E : Type 0} {A : Type ℓ} → Table E → ((width height : ℕ) → List E → A) → A
 of_table t f = f (width_of t) (height_of t) (entries_of t)
