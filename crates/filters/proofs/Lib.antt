@@ -2,5 +2,4 @@ pub mod Frames
 pub mod Adjunction
 pub mod PixelSteps
 pub mod TwoSteps
-pub mod Settled
 pub mod MiddlePage

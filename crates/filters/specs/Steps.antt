@@ -1,6 +1,6 @@
 -- The filters by corners of the table of an ink sheet. Assumes nothing.
-use Rattle.std.specs.Prelude.{◌≡◌, ℕ, ◌*◌, ◌<◌, ◌≤◌, Bool, false, not, ◌||◌, List, [], ◌∷◌, map, length, Result, MatchResult, ◌==◌, nat_le, nat_lt}
-use Rattle.std.specs.List.{range_with_len}
+use Rattle.std.specs.Prelude.{◌≡◌, ℕ, ◌*◌, ◌<◌, ◌≤◌, Bool, not, List, map, length, Result, MatchResult, ◌==◌, nat_le, nat_lt}
+use Rattle.std.specs.List.{list_any, range_with_len}
 use Rattle.entry.specs.Kinds.{ink}
 use Rattle.entry.specs.Numbers.{ink_numbers}
 use Rattle.entry.specs.declared.kinds.ink.Ink.{Ink}
@@ -33,8 +33,7 @@ settles Dilate width height memory o x y = nat_lt 0 (ink_numbers.number (cut_sum
 
 -- one of the rectangles does
 abbrev pub settled : Step → (width height : ℕ) → List Ink → List Offsets → (x y : ℕ) → Bool
-settled step width height memory [] x y = false
-settled step width height memory (o ∷ os) x y = settles step width height memory o x y || settled step width height memory os x y
+settled step width height memory e x y = list_any (λ o. settles step width height memory o x y) e
 
 -- the byte of a pixel, eroded or dilated
 abbrev pub step_byte : Step → (width height : ℕ) → List Ink → List Offsets → (x y : ℕ) → ℕ

@@ -5,6 +5,7 @@ ghost use Rattle.filters.specs.Steps.{step_answer, step_byte, StepLaw, TwoStepLa
 ghost use Rattle.filters.specs.declared.step.Step.TheVariants.{Erode, Dilate};
 ghost use Rattle.raster.specs.Drawn.{Drawn};
 ghost use Rattle.recipe.specs.Recipe.{rectangles_of};
+ghost use Rattle.sheet.specs.View.{of_table};
 
 use crate::laws::{filter_laws, step_law, two_step_law};
 use crate::step::Step;
@@ -17,7 +18,7 @@ use sheet::Table;
 
 // Draws ink where every element pixel on the sheet is ink, and answers how many pixels there are.
 pub fn erosion(table: &Table<'_, Ink>, element: &Element, page: &mut [u8]) -> Result<usize, Refusal>
-    ensures page { Drawn (step_answer table.now.frame.width table.now.frame.height (length page.old) (rectangles_of element.now)) table.now.frame.width table.now.frame.height (step_byte Erode table.now.frame.width table.now.frame.height table.now.entries.now (rectangles_of element.now)) result page.old page.new }
+    ensures page { Drawn (step_answer table.now.frame.width table.now.frame.height (length page.old) (rectangles_of element.now)) table.now.frame.width table.now.frame.height (of_table table.now (step_byte Erode) (rectangles_of element.now)) result page.old page.new }
     ensures law { StepLaw }
     ensures laws { FilterLaws }
 {
@@ -32,7 +33,7 @@ pub fn dilation(
     element: &Element,
     page: &mut [u8],
 ) -> Result<usize, Refusal>
-    ensures page { Drawn (step_answer table.now.frame.width table.now.frame.height (length page.old) (rectangles_of element.now)) table.now.frame.width table.now.frame.height (step_byte Dilate table.now.frame.width table.now.frame.height table.now.entries.now (rectangles_of element.now)) result page.old page.new }
+    ensures page { Drawn (step_answer table.now.frame.width table.now.frame.height (length page.old) (rectangles_of element.now)) table.now.frame.width table.now.frame.height (of_table table.now (step_byte Dilate) (rectangles_of element.now)) result page.old page.new }
     ensures law { StepLaw }
     ensures laws { FilterLaws }
 {
@@ -48,7 +49,7 @@ pub fn opening(
     between: &mut [Ink],
     page: &mut [u8],
 ) -> Result<usize, Refusal>
-    ensures steps { TwoSteps Erode Dilate table.now.frame.width table.now.frame.height table.now.entries.now (rectangles_of element.now) result between.old between.new page.old page.new }
+    ensures steps { of_table table.now (TwoSteps Erode Dilate) (rectangles_of element.now) result between.old between.new page.old page.new }
     ensures law { TwoStepLaw }
     ensures laws { FilterLaws }
 {
@@ -66,7 +67,7 @@ pub fn closing(
     between: &mut [Ink],
     page: &mut [u8],
 ) -> Result<usize, Refusal>
-    ensures steps { TwoSteps Dilate Erode table.now.frame.width table.now.frame.height table.now.entries.now (rectangles_of element.now) result between.old between.new page.old page.new }
+    ensures steps { of_table table.now (TwoSteps Dilate Erode) (rectangles_of element.now) result between.old between.new page.old page.new }
     ensures law { TwoStepLaw }
     ensures laws { FilterLaws }
 {

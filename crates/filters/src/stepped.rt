@@ -1,92 +1,78 @@
 // One step on an ink sheet, pixel by pixel.
 ghost use Rattle.std.specs.Prelude.{◌≡◌, length};
 ghost use Rattle.filters.specs.Steps.{settled, settles, step_answer, step_byte};
-ghost use Rattle.raster.specs.Drawn.{Drawn};
+ghost use Rattle.raster.specs.Drawn.{Drawn, Pictured};
+ghost use Rattle.sheet.specs.View.{of_table};
 
 use crate::step::Step;
 use entry::kinds::ink::*;
 use entry::{Ink, Tally};
-use raster::{Offsets, Raster, cut_at, draw, reflected_cut_at, room};
+use raster::{Offsets, cut_at, draw, reflected_cut_at, room};
 use refusal::Refusal;
 use sheet::Table;
 
-// Whether one rectangle settles the pixel: in an erosion one that is not all ink, in a dilation one that is seen from ink.
-fn settles(step: Step, table: &Table<'_, Ink>, offsets: Offsets, x: u16, y: u16) -> bool
-    ensures { result ≡ settles step table.now.frame.width table.now.frame.height table.now.entries.now offsets x y }
-{
-    match step {
-        Step::Erode => {
-            let cut = cut_at(table, offsets, x, y);
-            cut.sum.value() as usize != cut.area
-        }
-        Step::Dilate => {
-            let cut = reflected_cut_at(table, offsets, x, y);
-            cut.sum.value() > 0
-        }
-    }
-}
-
-// Whether one of the rectangles does.
-fn is_settled(step: Step, table: &Table<'_, Ink>, element: &[Offsets], x: u16, y: u16) -> bool
-    ensures { result ≡ settled step table.now.frame.width table.now.frame.height table.now.entries.now element.now x y }
-{
-    for offsets in element {
-        if settles(step, table, *offsets, x, y) {
-            return true;
+impl Step {
+    // Whether one rectangle settles the pixel: in an erosion one that is not all ink, in a dilation one that is seen from ink.
+    fn settles(self, table: &Table<'_, Ink>, offsets: Offsets, x: u16, y: u16) -> bool
+        ensures { result ≡ of_table table.now (settles self) offsets x y }
+    {
+        match self {
+            Step::Erode => {
+                let cut = cut_at(table, offsets, x, y);
+                cut.sum.value() as usize != cut.area
+            }
+            Step::Dilate => {
+                let cut = reflected_cut_at(table, offsets, x, y);
+                cut.sum.value() > 0
+            }
         }
     }
-    false
-}
 
-// The picture that a step gives.
-#[derive(Drop)]
-struct Stepped<'a, 'b, 'c> {
-    table: &'a Table<'b, Ink>,
-    element: &'c [Offsets],
-    step: Step,
-}
-
-impl<'a, 'b, 'c> Raster for Stepped<'a, 'b, 'c> {
-    ghost wide = { λ s. s.table.now.frame.width };
-
-    ghost tall = { λ s. s.table.now.frame.height };
-
-    ghost byte = { λ s x y. step_byte s.step s.table.now.frame.width s.table.now.frame.height s.table.now.entries.now s.element.now x y };
-
-    fn width(&self) -> u16 {
-        self.table.frame.width as u16
+    // Whether one of the rectangles does.
+    fn is_settled(self, table: &Table<'_, Ink>, element: &[Offsets], x: u16, y: u16) -> bool
+        ensures { result ≡ of_table table.now (settled self) element.now x y }
+    {
+        element
+            .iter()
+            .any(|offsets| self.settles(table, *offsets, x, y))
     }
 
-    fn height(&self) -> u16 {
-        self.table.frame.height as u16
-    }
-
-    fn at(&self, x: u16, y: u16) -> u8 {
-        let settled = is_settled(self.step, self.table, self.element, x, y);
-        match self.step {
+    // The byte that the step gives a pixel.
+    fn byte(self, table: &Table<'_, Ink>, element: &[Offsets], x: u16, y: u16) -> u8
+        ensures { result ≡ of_table table.now (step_byte self) element.now x y }
+    {
+        let settled = self.is_settled(table, element, x, y);
+        match self {
             Step::Erode => u8::from(!settled),
             Step::Dilate => u8::from(settled),
         }
     }
 }
 
-// Draws the page that a step gives, and answers how many pixels it has.
+// Draws the page that a step gives.
+fn draw_bytes(
+    step: Step,
+    table: &Table<'_, Ink>,
+    element: &[Offsets],
+    page: &mut [u8],
+) -> Result<usize, Refusal>
+    ensures { Pictured table.now.frame (of_table table.now (step_byte step) element.now) result page.old page.new }
+{
+    draw(table.frame, |x, y| step.byte(table, element, x, y), page)
+}
+
+// The same, if the element has a rectangle. Answers how many pixels the page has.
 pub(crate) fn draw_step(
     step: Step,
     table: &Table<'_, Ink>,
     element: &[Offsets],
     page: &mut [u8],
 ) -> Result<usize, Refusal>
-    ensures { Drawn (step_answer table.now.frame.width table.now.frame.height (length page.old) element.now) table.now.frame.width table.now.frame.height (step_byte step table.now.frame.width table.now.frame.height table.now.entries.now element.now) result page.old page.new }
+    ensures { Drawn (step_answer table.now.frame.width table.now.frame.height (length page.old) element.now) table.now.frame.width table.now.frame.height (of_table table.now (step_byte step) element.now) result page.old page.new }
 {
-    let stepped = Stepped {
-        table,
-        element,
-        step,
-    };
-    room(&stepped, page)?;
-    if element.len() == 0 {
+    room(table.frame, page)?;
+    if element.is_empty() {
         return Err(Refusal::NoRectangle);
     }
-    draw(&stepped, page)
+    draw_bytes(step, table, element, page)
 }

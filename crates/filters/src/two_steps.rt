@@ -1,7 +1,8 @@
 // One step after the other, with the table of the page between them in lent memory.
-ghost use Rattle.std.specs.Prelude.{◌≡◌, ◌≤◌, length};
+ghost use Rattle.std.specs.Prelude.{◌≡◌};
 ghost use Rattle.filters.specs.Steps.{TwoSteps};
 ghost use Rattle.sheet.specs.Sheet.{table_size};
+ghost use Rattle.sheet.specs.View.{of_table};
 
 use crate::step::Step;
 use crate::stepped::draw_step;
@@ -9,17 +10,16 @@ use entry::Ink;
 use entry::kinds::ink::*;
 use raster::Offsets;
 use refusal::Refusal;
-use sheet::{Table, lay_page};
+use sheet::{Frame, Table, lay_page};
 
 // How many entries the table of a sheet of that size takes.
-fn table_size(width: usize, height: usize) -> usize
-    requires { (width ≤ 4096) × (height ≤ 4096) }
-    ensures { result ≡ table_size width height }
+fn table_size(frame: Frame) -> usize
+    ensures { result ≡ table_size frame.width frame.height }
 {
-    if height == 0 {
+    if frame.height == 0 {
         return 0;
     }
-    (width + 1) * (height + 1)
+    (frame.width + 1) * (frame.height + 1)
 }
 
 // Draws the page that two steps give, and answers how many pixels it has.
@@ -31,9 +31,9 @@ pub(crate) fn draw_two_steps(
     between: &mut [Ink],
     page: &mut [u8],
 ) -> Result<usize, Refusal>
-    ensures { TwoSteps first second table.now.frame.width table.now.frame.height table.now.entries.now element.now result between.old between.new page.old page.new }
+    ensures { of_table table.now (TwoSteps first second) element.now result between.old between.new page.old page.new }
 {
-    if between.len() < table_size(table.frame.width, table.frame.height) {
+    if between.len() < table_size(table.frame) {
         return Err(Refusal::TableTooShort);
     }
     let n = draw_step(first, table, element, page)?;

@@ -1,7 +1,7 @@
 -- Lists written from the front, pages drawn row after row. Assumes nothing.
 use Rattle.std.proofs.Common.{◌≡◌, ℕ, ◌+◌, ◌-◌, ◌*◌, ◌/◌, ◌%◌, ◌<◌, ◌≤◌, List, ◌++◌, map, length, get_or, take, drop, Ok, Err, Result, sym, ap, ◌∙◌, subst, inl, inr, mul_comm, arith, length-append, length-drop}
 use Rattle.std.specs.List.{range_with_len}
-use Rattle.std.proofs.lemmas.Nat.{div-add-mod', mod_below, mul-add-lt, mul-le}
+use Rattle.std.proofs.lemmas.Nat.{div-mul-add, mod-mul-add, div-add-mod', mod_below, mul-add-lt, mul-le}
 use Rattle.std.proofs.lemmas.Bool.{cases_lt, leb-true}
 use Rattle.std.proofs.lemmas.List.{ext_get_or, get_or_append_left, get_or-append_right, get_or-drop}
 use Rattle.std.proofs.lemmas.List.FromFn.{length-map-range_with_len, get_or-map-range_with_len}
@@ -33,6 +33,10 @@ module _ (f : ℕ → ℕ) (n : ℕ) (old : List ℕ) where
       laid_front (part ++ drop m (drop 0 old)) room so.long
       (λ i lt. ap (λ j. get_or (part ++ drop m (drop 0 old)) j 0) (let z : i ≡ 0 + i = omega arith in z) ∙ so.here i 0 (omega arith) ∙ is i lt)
       (λ i ge. so.others i 0 (inr (omega arith)))
+
+-- the byte at column x of row y
+pub byte_at : (w : ℕ) (f : ℕ → ℕ → ℕ) (x y : ℕ) → x < w → page_byte w f (y * w + x) ≡ f x y
+byte_at w f x y lt = ap (λ i. f i ((y * w + x) / w)) (mod-mul-add y w x lt) ∙ ap (f x) (div-mul-add y w x lt)
 
 -- one row more
 pub row_more : (gives : (x y r : ℕ) → Type 0) (w y n : ℕ) (old page row : List ℕ) → n ≡ w → length row ≡ n → y * w + w ≤ length page → ((x : ℕ) → x < w → gives x y (get_or row x 0)) → RowsDrawn gives w y old page →

@@ -5,11 +5,11 @@ use Rattle.filters.proofs.two_steps.draw_two_steps.Goals as goal
 pub returns-then-table-eq0 : goal.returns-then-table-eq0
 returns-then-table-eq0 c =
     let t = c.args.table.now in
-    no_table c.args.first c.args.second t.width t.height t.entries.now c.args.element.now c.args.between.now c.args.page.now c.draw_step.new.page c.in_ok-n.n (omega arith) c.in_ok-n.ensures (omega arith)
+    no_table c.args.first c.args.second t.frame.width t.frame.height t.entries.now c.args.element.now c.args.between.now c.args.page.now c.draw_step.new.page c.in_ok-n.n (omega arith) c.in_ok-n.ensures (omega arith)
 
 pub returns : goal.returns
 returns c =
     let t = c.args.table.now in
     let m = c.in_ok-middle.middle in
-    with_table c.args.first c.args.second t.width t.height t.entries.now c.args.element.now c.args.between.now c.args.page.now c.draw_step.new.page c.in_ok-n.n (omega arith) c.in_ok-n.ensures
-    c.lay_page.new.memory c.in_ok-lay_page.ensures.effect c.draw_step-2.new.page (omega arith) m.entries.now m.width m.height c.in_ok-middle.ensures c.draw_step-2.result c.draw_step-2.ensures
+    with_table c.args.first c.args.second t.frame.width t.frame.height t.entries.now c.args.element.now c.args.between.now c.args.page.now c.draw_step.new.page c.in_ok-n.n (omega arith) c.in_ok-n.ensures
+    c.lay_page.new.memory c.in_ok-lay_page.ensures.effect c.draw_step-2.new.page (omega arith) m.entries.now m.frame.width m.frame.height c.in_ok-middle.ensures c.draw_step-2.result c.draw_step-2.ensures
