@@ -1,7 +1,8 @@
 // A finished sheet: edits and filing.
-ghost use Rattle.std.specs.Prelude.{◌≡◌, ◌+◌};
-ghost use Rattle.sheet.specs.Page.{capped};
-ghost use Rattle.sheet.specs.Sheet.{finished, filed, Patched, Wiped};
+ghost use Rattle.std.specs.Prelude.{◌≡◌, ℕ, ◌+◌, ◌<◌, true};
+ghost use Rattle.sheet.specs.Fill.{Reaches, level_at};
+ghost use Rattle.sheet.specs.Page.{area, capped, on_sheet};
+ghost use Rattle.sheet.specs.Sheet.{finished, filed, Edited, Patched, Wiped};
 
 use crate::fill::Fill;
 use crate::rectangle::Rectangle;
@@ -20,10 +21,13 @@ fn count(edits: &mut u64, laid: &mut u64, n: usize)
 }
 
 impl<'a, E: Entry> Finished<'a, E> {
-    // Lays the levels, row after row, over a rectangle, and answers how many there are.
-    pub fn patch(&mut self, rect: Rectangle, levels: &[u8]) -> Result<usize, Refusal>
+    // Lays levels over a rectangle of the sheet, and counts the edit.
+    fn lay(&mut self, rect: Rectangle, fill: Fill<'_>, n: usize)
+        requires on { on_sheet self.old.frame.width self.old.frame.height rect ≡ true }
+        requires reaches { (n : ℕ) → n < area rect → Reaches fill n }
+        requires pixels { n ≡ area rect }
         ensures memory { self.new.table.ghost_name ≡ self.old.table.ghost_name }
-        ensures patched { Patched E.Entry (finished self.old) rect levels.now result (finished self.new) }
+        ensures edited { Edited E.Entry (finished self.old) rect (level_at fill.entry) (finished self.new) }
     {
         let Finished {
             table,
@@ -31,12 +35,20 @@ impl<'a, E: Entry> Finished<'a, E> {
             edits,
             laid,
         } = self;
-        let n = rect.area_on(*frame)?;
+        rewrite(table, *frame, rect, fill);
+        count(edits, laid, n);
+    }
+
+    // Lays the levels, row after row, over a rectangle, and answers how many there are.
+    pub fn patch(&mut self, rect: Rectangle, levels: &[u8]) -> Result<usize, Refusal>
+        ensures memory { self.new.table.ghost_name ≡ self.old.table.ghost_name }
+        ensures patched { Patched E.Entry (finished self.old) rect levels.now result (finished self.new) }
+    {
+        let n = rect.area_on(self.frame)?;
         if levels.len() != n {
             return Err(Refusal::PatchLength);
         }
-        rewrite(table, *frame, rect, Fill::Each(levels));
-        count(edits, laid, n);
+        self.lay(rect, Fill::Each(levels), n);
         Ok(n)
     }
 
@@ -45,16 +57,9 @@ impl<'a, E: Entry> Finished<'a, E> {
         ensures memory { self.new.table.ghost_name ≡ self.old.table.ghost_name }
         ensures wiped { Wiped E.Entry (finished self.old) rect level result (finished self.new) }
     {
-        let Finished {
-            table,
-            frame,
-            edits,
-            laid,
-        } = self;
-        let n = rect.area_on(*frame)?;
+        let n = rect.area_on(self.frame)?;
         let fill: Fill<'static> = Fill::All(level);
-        rewrite(table, *frame, rect, fill);
-        count(edits, laid, n);
+        self.lay(rect, fill, n);
         Ok(n)
     }
 

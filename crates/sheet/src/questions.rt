@@ -6,7 +6,7 @@ ghost use Rattle.sheet.specs.Page.{area_answer};
 ghost use Rattle.sheet.specs.Run.{RunsAgree};
 ghost use Rattle.sheet.specs.Sheet.{corners, sum_answer, SumLaw};
 ghost use Rattle.sheet.specs.Table.{cell};
-ghost use Rattle.sheet.specs.View.{Viewed};
+ghost use Rattle.sheet.specs.View.{Viewed, of_table};
 
 use crate::cells::read;
 use crate::frame::Frame;
@@ -80,7 +80,7 @@ impl<'a, E: Entry> Table<'a, E> {
 
     // The entry of a rectangle, from the four corners of the table.
     pub fn sum(&self, rect: Rectangle) -> Result<E, Refusal>
-        ensures answer { told result ≡ sum_answer E.Entry self.now.frame.width self.now.frame.height self.now.entries.now rect }
+        ensures answer { told result ≡ of_table self.now (sum_answer E.Entry) rect }
         ensures law { SumLaw E.Entry }
         ensures runs { RunsAgree E.Entry }
     {
@@ -108,7 +108,7 @@ impl<'a, E: Entry> Table<'a, E> {
 
     // The entry of these columns and rows, cut at the frame.
     pub fn cut_sum(&self, columns: Span, rows: Span) -> E
-        ensures value { result ≡ cut_sum E.Entry self.now.frame.width self.now.frame.height self.now.entries.now columns rows }
+        ensures value { result ≡ of_table self.now (cut_sum E.Entry) columns rows }
         ensures law { CutLaw E.Entry }
     {
         cut_law::<E>();
