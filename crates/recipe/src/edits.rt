@@ -87,12 +87,12 @@ impl<R: Placed> Recipe<R> {
         self.places[place] = rectangle;
         Ok(self.placed)
     }
-}
 
-impl Recipe<Offsets> {
-    pub fn rectangles(&self) -> &[Offsets]
+    // The rectangles, in the order of their places.
+    pub fn rectangles(&self) -> &[R]
         ensures { result.now ≡ rectangles_of self.now }
     {
-        &self.places[0..self.placed]
+        let places = &self.places[..];
+        &places[0..self.placed]
     }
 }
