@@ -1,7 +1,7 @@
 -- A loop through the rectangles of an element. Assumes nothing.
+use Rattle.entry.specs.Kinds.{Ink}
 use Rattle.std.proofs.Common.{◌≡◌, ℕ, ◌+◌, ◌<◌, ◌≤◌, Bool, true, false, ◌||◌, List, length, get_or, drop, sym, ap, ◌∙◌}
 use Rattle.std.proofs.lemmas.List.{at_drop_more, at_drop_all}
-use Rattle.entry.specs.declared.kinds.ink.Ink.{Ink}
 use Rattle.raster.specs.declared.offsets.Offsets.{Offsets}
 use Rattle.filters.specs.declared.step.Step.{Step}
 use Rattle.filters.specs.Steps.{settles, settled}

@@ -9,7 +9,6 @@ ghost use Rattle.raster.specs.Region.{window_byte};
 
 use crate::laws::{filter_laws, median_law};
 use entry::Ink;
-use entry::kinds::ink::*;
 use raster::{Neighbourhood, Raster, Shade, Window, Windowed, draw};
 use refusal::Refusal;
 use sheet::Table;

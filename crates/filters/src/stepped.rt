@@ -4,7 +4,6 @@ ghost use Rattle.filters.specs.Steps.{settled, settles, step_answer, step_byte};
 ghost use Rattle.raster.specs.Drawn.{Drawn};
 
 use crate::step::Step;
-use entry::kinds::ink::*;
 use entry::{Ink, Tally};
 use raster::{Offsets, Raster, cut_at, draw, reflected_cut_at, room};
 use refusal::Refusal;

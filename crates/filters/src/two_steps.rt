@@ -6,7 +6,6 @@ ghost use Rattle.sheet.specs.Sheet.{table_size};
 use crate::step::Step;
 use crate::stepped::draw_step;
 use entry::Ink;
-use entry::kinds::ink::*;
 use raster::Offsets;
 use refusal::Refusal;
 use sheet::{Table, lay_page};

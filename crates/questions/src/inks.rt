@@ -8,7 +8,6 @@ ghost use Rattle.raster.specs.Drawn.{room_answer, Drawn};
 ghost use Rattle.raster.specs.Region.{point, window_byte};
 
 use entry::Whole;
-use entry::kinds::whole::*;
 use raster::{
     Neighbourhood, POINT, Raster, Shade, Window, Windowed, draw, regions_are_exact, room,
 };

@@ -9,7 +9,6 @@ ghost use Rattle.raster.specs.Region.{window_byte};
 ghost use Rattle.refusal.specs.Answers.{told};
 
 use crate::totals::total_laws;
-use entry::kinds::whole::*;
 use entry::{Tally, Whole};
 use raster::{Neighbourhood, Raster, Shade, Window, Windowed, draw, regions_are_exact};
 use refusal::Refusal;

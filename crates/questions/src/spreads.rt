@@ -4,9 +4,6 @@ ghost use Rattle.questions.specs.Spreads.{spread_answer, spread_of, SpreadLaw};
 ghost use Rattle.refusal.specs.Answers.{told};
 ghost use Rattle.sheet.specs.Sheet.{SumLaw};
 
-use entry::kinds::energy::*;
-use entry::kinds::pair::*;
-use entry::kinds::whole::*;
 use entry::laws::sums_are_exact;
 use entry::{Energy, Entry, Pair, Tally, Whole};
 use refusal::Refusal;
