@@ -4,7 +4,6 @@ use crate::pages::any_window;
 use crate::random::Random;
 use crate::score::Score;
 use crate::shape::{InkPage, Shape};
-use entry::kinds::ink::*;
 use entry::{Entry, Ink};
 use filters::{closing, dilation, erosion, median, opening};
 use raster::Window;

@@ -4,7 +4,6 @@ use crate::page::Page;
 use crate::random::Random;
 use crate::score::Score;
 use entry::Whole;
-use entry::kinds::whole::*;
 use questions::{fixed_ink, mean_page, share_ink};
 use raster::{POINT, Window};
 use refusal::Refusal;

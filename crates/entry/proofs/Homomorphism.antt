@@ -14,6 +14,6 @@ module _ {E F : Type 0} (k : Ghosts E) (k' : Ghosts F) (f : E → F)
   taken_map (pos n) x = copies_map n x
   taken_map (negsuc n) x = copies_map (suc n) (k.inverted x) ∙ ap (copies k' (suc n)) (on_inverted x)
 
-  -- the code of `scaled`: a part r is taken by a weight of 8 bits, as it is passed on
+  -- the code of `times`: a part r is taken by a weight of 8 bits, as it is passed on
   pub taken_part : (z : ℤ) (x : E) (r : F) → SFits w8 z → r ≡ taken k' (to_z w8 (of_z w8 z)) (f x) → r ≡ f (taken k z x)
   taken_part z x r small e = e ∙ ap (λ (y : ℤ). taken k' y (f x)) (to_z-of_z w8 z small) ∙ sym (taken_map z x)

@@ -1,9 +1,9 @@
 -- A word taken a number of times is a product. Assumes nothing.
-use Rattle.std.proofs.Common.{◌≡◌, ℕ, zero, suc, ◌+◌, ◌-◌, ◌*◌, ◌%◌, ◌^◌, ◌<◌, ◌≤◌, ℤ, pos, negsuc, nat_abs, sym, ap, ◌∙◌, le_trans, suc-mul, mul_comm, zero-mul, mul-add, arith, lit≤, w8, w16, w32, w64, SFits, to_z, of_z}
-use native.Mathlib.Nat.{add-mul-mod_self_right, mod-mod}
-use lib.Signed.{mag, nat_abs-le}
+use Rattle.std.proofs.Common.{◌≡◌, ℕ, zero, suc, ◌+◌, ◌-◌, ◌*◌, ◌%◌, ◌^◌, ◌≤◌, ℤ, pos, negsuc, nat_abs, sym, ap, ◌∙◌, le_trans, suc-mul, mul_comm, zero-mul, mul-add, arith, lit≤, w8, w16, w32, w64, SFits, to_z, of_z}
+use native.Mathlib.Nat.{add-mul-mod_self_right}
+use lib.Signed.{nat_abs-le}
 use mir.Syntax.{Width, w128}
-use mir.Val.{bits, hbits}
+use mir.Val.{bits}
 use Rattle.std.proofs.lemmas.Int.{to_z-of_z}
 use Rattle.entry.specs.Kinds.{sums}
 use Rattle.entry.specs.Taken.{copies, taken}
@@ -41,12 +41,8 @@ module _ (w : Width) {W : Type 0} (words : Words (bits w) W) (amount : ℕ → �
       let below = words.fits x in
       copies_word words amount (suc n) (2 ^ bits w - words.value x) ∙ word_mod words _ _ (complements (suc n) (words.value x) (2 ^ bits w) h (omega arith))
 
-  pub taken_product : (z : ℤ) (x : W) → SFits w8 z → taken (sums words amount) z x ≡ word words (words.value x * of_z w z)
-  taken_product z x small = taken_bits z x (le_trans (nat_abs-le z small.sfits) (byte_within w))
-
-  -- the code of `scaled`: the weight z of 8 bits, widened to s, has the bits r, and y is made of the product with r
-  pub scaled : (z s : ℤ) (r : ℕ) (x y : W) → SFits w8 z → mag s < 2 ^ hbits w → s ≡ to_z w8 (of_z w8 z) → r ≡ of_z w (to_z w (of_z w s))
-      → ((n : ℕ) → n % 2 ^ bits w ≡ ((words.value x * r) % 2 ^ bits w) % 2 ^ bits w → y ≡ word words n) → y ≡ taken (sums words amount) z x
-  scaled z s r x y small fits widened cast made =
-      let wide : r ≡ of_z w z = cast ∙ ap (of_z w) (to_z-of_z w s (record { sfits = fits }) ∙ widened ∙ to_z-of_z w8 z small) in
-      made (words.value x * r) (sym (mod-mod (words.value x * r) (2 ^ bits w))) ∙ ap (λ (n : ℕ). word words (words.value x * n)) wide ∙ sym (taken_product z x small)
+  -- the code of `times`: r has the bits of the weight z of 8 bits, and y is the word of the product with r
+  pub taken_product : (z : ℤ) (x y : W) (r : ℕ) → SFits w8 z → r ≡ of_z w (to_z w8 (of_z w8 z)) → y ≡ word words (words.value x * r) → y ≡ taken (sums words amount) z x
+  taken_product z x y r small weight product =
+      let wide : r ≡ of_z w z = weight ∙ ap (of_z w) (to_z-of_z w8 z small) in
+      product ∙ ap (λ (n : ℕ). word words (words.value x * n)) wide ∙ sym (taken_bits z x (le_trans (nat_abs-le z small.sfits) (byte_within w)))

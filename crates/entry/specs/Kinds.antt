@@ -1,29 +1,46 @@
 -- What each kind of entry means. Assumes nothing.
-use Rattle.std.specs.Prelude.{ℕ, ◌*◌, ◌/◌, ◌^◌, min, bit_xor, refl}
+use Rattle.std.specs.Prelude.{ℕ, ◌*◌, ◌/◌, ◌^◌, min, bit_xor}
+use Rattle.std.specs.Int.{w16, w32, w64}
+use Rattle.entry.specs.Machine.{machine, words_of}
 use Rattle.entry.specs.Words.{Words, word, plus, minus}
 use Rattle.entry.specs.declared.kind.entry.Entry.{Ghosts}
-use Rattle.entry.specs.declared.word.energy.Energy.{Energy}
-use Rattle.entry.specs.declared.kinds.ink.Ink.{Ink}
-use Rattle.entry.specs.declared.word.narrow.Narrow.{Narrow}
+use Rattle.entry.specs.declared.amount.Level.{Level}
+use Rattle.entry.specs.declared.amount.Pixel.{Pixel}
+use Rattle.entry.specs.declared.amount.Square.{Square}
 use Rattle.entry.specs.declared.kinds.pair.Pair.{Pair}
-use Rattle.entry.specs.declared.word.parity.Parity.{Parity}
-use Rattle.entry.specs.declared.word.whole.Whole.{Whole}
+use Rattle.entry.specs.declared.kinds.parity.Flip.{Flip}
+use Rattle.entry.specs.declared.word.Word.{Word}
+
+abbrev pub Narrow : Type 0
+Narrow = Word ℕ Level (machine w16)
+
+abbrev pub Whole : Type 0
+Whole = Word ℕ Level (machine w32)
+
+abbrev pub Ink : Type 0
+Ink = Word ℕ Pixel (machine w32)
+
+abbrev pub Energy : Type 0
+Energy = Word ℕ Square (machine w64)
+
+abbrev pub Parity : Type 0
+Parity = Word ℕ Flip (machine w64)
 
 abbrev pub narrows : Words 16 Narrow
-narrows = record { value = λ w. w.value; fits = λ w. w.fits; make = λ n h. record { value = n; fits = h }; made = λ w. refl; holds = λ n h. refl }
+narrows = words_of (machine w16)
 
 abbrev pub wholes : Words 32 Whole
-wholes = record { value = λ w. w.value; fits = λ w. w.fits; make = λ n h. record { value = n; fits = h }; made = λ w. refl; holds = λ n h. refl }
+wholes = words_of (machine w32)
 
 abbrev pub energies : Words 64 Energy
-energies = record { value = λ w. w.value; fits = λ w. w.fits; make = λ n h. record { value = n; fits = h }; made = λ w. refl; holds = λ n h. refl }
+energies = words_of (machine w64)
 
 abbrev pub parities : Words 64 Parity
-parities = record { value = λ w. w.value; fits = λ w. w.fits; make = λ n h. record { value = n; fits = h }; made = λ w. refl; holds = λ n h. refl }
+parities = words_of (machine w64)
 
--- the words of the whole tally
+-- the words of the ink count
 abbrev pub inks : Words 32 Ink
-inks = record { value = λ w. w.tally.value; fits = λ w. w.tally.fits; make = λ n h. record { tally = record { value = n; fits = h } }; made = λ w. refl; holds = λ n h. refl }
+inks = words_of (machine w32)
 
 -- words of k bits with addition, and what a level counts
 abbrev pub sums : {k : ℕ} {W : Type 0} → Words k W → (ℕ → ℕ) → Ghosts W

@@ -1,3 +1,4 @@
+pub mod Machine
 pub mod Words
 pub mod Kinds
 pub mod Group
@@ -6,4 +7,5 @@ pub mod Sums
 pub mod Exactness
 pub mod Numbers
 pub mod WordGroup
+pub mod NumberLaws
 pub mod Xor

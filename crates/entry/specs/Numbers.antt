@@ -1,12 +1,8 @@
 -- The kinds whose entries are numbers. Assumes nothing.
 use Rattle.std.specs.Prelude.{ℕ, ◌*◌, min}
-use Rattle.entry.specs.Kinds.{narrows, wholes, inks, energies}
+use Rattle.entry.specs.Kinds.{Narrow, Whole, Ink, Energy, narrows, wholes, inks, energies}
 use Rattle.entry.specs.Words.{Words}
 use Rattle.entry.specs.declared.kind.modular.Modular.{Ghosts}
-use Rattle.entry.specs.declared.word.energy.Energy.{Energy}
-use Rattle.entry.specs.declared.kinds.ink.Ink.{Ink}
-use Rattle.entry.specs.declared.word.narrow.Narrow.{Narrow}
-use Rattle.entry.specs.declared.word.whole.Whole.{Whole}
 
 -- words of k bits, what a level counts, and the most that one does
 abbrev pub numbers : {k : ℕ} {W : Type 0} → Words k W → (ℕ → ℕ) → ℕ → Ghosts W

@@ -6,10 +6,9 @@ use Rattle.std.specs.Int.Bits.{xor_assoc, xor_self, xor_zero_r}
 use Rattle.std.specs.Int.{w8}
 use Rattle.std.proofs.lemmas.Int.{to_z-of_z}
 use Rattle.entry.specs.Group.{Group}
-use Rattle.entry.specs.Kinds.{parities, parity}
+use Rattle.entry.specs.Kinds.{Parity, parities, parity}
 use Rattle.entry.specs.Taken.{copies, taken}
 use Rattle.entry.specs.Words.{word}
-use Rattle.entry.specs.declared.word.parity.Parity.{Parity}
 use Rattle.entry.specs.WordGroup.{value_word, word_value}
 
 value_joined : (x y : Parity) → (parity.joined x y).value ≡ bit_xor x.value y.value
@@ -41,7 +40,7 @@ taken_cancel (negsuc n) x small =
     let below = small.sfits in
     (λ h. (copies_cancel (suc n) x).0 (omega arith), λ h. (copies_cancel (suc n) x).1 (omega arith))
 
--- the code of `scaled`: r, the bits of the weight z, is even or odd
+-- the code of `times`: r, the bits of the weight z, is even or odd
 module _ (z : ℤ) (x : Parity) (r : ℕ) (small : FitsSigned w8 z) (cast : r ≡ of_z w8 (to_z w8 (of_z w8 z))) where
   bits_are : r ≡ of_z w8 z
   bits_are = cast ∙ ap (of_z w8) (to_z-of_z w8 z small)

@@ -8,12 +8,8 @@ ghost use Rattle.entry.specs.Sums.{limit_of};
 
 use crate::kind::entry::Entry;
 use crate::kind::modular::Modular;
-use crate::kinds::ink::Ink;
 use crate::kinds::pair::Pair;
-use crate::word::energy::Energy;
-use crate::word::narrow::Narrow;
-use crate::word::parity::Parity;
-use crate::word::whole::Whole;
+use crate::kinds::{Energy, Ink, Narrow, Parity, Whole};
 
 // The four laws of a kind; no code runs.
 fn group_law<E: Entry>()

@@ -2,16 +2,8 @@
 use crate::kind::entry::Entry;
 use crate::kind::tally::Tally;
 use crate::kind::weighable::Weighable;
-use crate::kinds::energy::*;
-use crate::kinds::ink::*;
-use crate::kinds::narrow::*;
-use crate::kinds::pair::*;
-use crate::kinds::parity::*;
-use crate::kinds::whole::*;
-use crate::word::energy::*;
-use crate::word::narrow::*;
-use crate::word::parity::*;
-use crate::word::whole::*;
+use crate::kinds::pair::Pair;
+use crate::kinds::{Energy, Ink, Narrow, Parity, Whole};
 use std::fmt::Debug;
 use std::process::Abort;
 
@@ -32,18 +24,12 @@ fn times_is_repeated<E: Weighable + PartialEq + Debug>(rt: &impl Abort, x: E) {
 
 #[test]
 fn words_wrap(rt: HostRuntime) {
+    assert_eq!(rt; Narrow::of(65_535).join(Narrow::lift(1)), Narrow::zero());
     assert_eq!(rt;
-        Narrow { value: 65_535 }.join(Narrow::lift(1)),
-        Narrow::zero()
-    );
-    assert_eq!(rt;
-        Whole {
-            value: 4_294_967_295,
-        }
-        .join(Whole::lift(2)),
+        Whole::of(4_294_967_295).join(Whole::lift(2)),
         Whole::lift(1)
     );
-    assert_eq!(rt; Narrow::lift(1).inverse(), Narrow { value: 65_535 });
+    assert_eq!(rt; Narrow::lift(1).inverse(), Narrow::of(65_535));
     assert_eq!(rt; Energy::lift(255).value(), 65_025);
 }
 
@@ -59,11 +45,8 @@ fn zero_is_its_own_inverse(rt: HostRuntime) {
 
 #[test]
 fn levels(rt: HostRuntime) {
-    assert_eq!(rt;
-        Parity::lift(20).join(Parity::lift(10)),
-        Parity { value: 36 }
-    );
-    assert_eq!(rt; Parity::lift(255), Parity { value: 1 << 63 });
+    assert_eq!(rt; Parity::lift(20).join(Parity::lift(10)), Parity::of(36));
+    assert_eq!(rt; Parity::lift(255), Parity::of(1 << 63));
     assert_eq!(rt;
         Ink::lift(0).join(Ink::lift(1)).join(Ink::lift(255)).value(),
         2

@@ -5,8 +5,7 @@ use Rattle.std.specs.List.{range_with_len}
 use Rattle.std.proofs.lemmas.List.FromFn.{length-map-range_with_len}
 use Rattle.std.proofs.lemmas.Slice.{drop-append-drop}
 use Rattle.std.proofs.lemmas.Bool.{cond-true, le-leb}
-use Rattle.entry.specs.Kinds.{ink}
-use Rattle.entry.specs.declared.kinds.ink.Ink.{Ink}
+use Rattle.entry.specs.Kinds.{Ink, ink}
 use Rattle.raster.specs.Drawn.{laid, page_byte, room_answer, Drawn}
 use Rattle.raster.specs.declared.offsets.Offsets.{Offsets}
 use Rattle.refusal.specs.Answers.{accepted, number_of}

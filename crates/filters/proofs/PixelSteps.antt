@@ -6,9 +6,8 @@ use Rattle.std.proofs.lemmas.Int.{ints}
 use Rattle.std.proofs.lemmas.Bool.{and_from, and_parts, or_cases, or_left, or_right, true≢false}
 use Rattle.std.proofs.lemmas.Bool.Decides.{Decides-and, Decides-at, Decides-eqb, Decides-like, Decides-ltb, Decides-or, same_from_decides, nat_tests}
 use Rattle.entry.specs.Exactness.{Exact}
-use Rattle.entry.specs.Kinds.{ink}
+use Rattle.entry.specs.Kinds.{Ink, ink}
 use Rattle.entry.specs.Numbers.{ink_numbers}
-use Rattle.entry.specs.declared.kinds.ink.Ink.{Ink}
 use Rattle.entry.proofs.ModularSums.{sum_same}
 use Rattle.raster.specs.Region.{between, covers, reflected, cut_sum_at, cut_area_at, window_offsets, window_count, Bytes, RegionLaw, WindowLaw}
 use Rattle.raster.specs.declared.offsets.Offsets.{Offsets}

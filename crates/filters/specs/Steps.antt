@@ -1,9 +1,8 @@
 -- The filters by corners of the table of an ink sheet. Assumes nothing.
 use Rattle.std.specs.Prelude.{◌≡◌, ℕ, ◌*◌, ◌<◌, ◌≤◌, Bool, not, List, map, length, Result, MatchResult, ◌==◌, nat_le, nat_lt}
 use Rattle.std.specs.List.{list_any, range_with_len}
-use Rattle.entry.specs.Kinds.{ink}
+use Rattle.entry.specs.Kinds.{Ink, ink}
 use Rattle.entry.specs.Numbers.{ink_numbers}
-use Rattle.entry.specs.declared.kinds.ink.Ink.{Ink}
 use Rattle.raster.specs.Drawn.{laid, page_byte, room_answer}
 use Rattle.raster.specs.Region.{cut_sum_at, cut_area_at, reflected, window_byte, Bytes}
 use Rattle.raster.specs.declared.offsets.Offsets.{Offsets}

@@ -3,7 +3,6 @@ ghost use Rattle.filters.specs.Laws.{FilterLaws};
 ghost use Rattle.filters.specs.Steps.{MedianLaw, StepLaw, TwoStepLaw};
 
 use entry::Ink;
-use entry::kinds::ink::*;
 use entry::laws::sums_are_exact;
 use raster::regions_are_exact;
 

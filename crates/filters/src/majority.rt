@@ -10,7 +10,6 @@ ghost use Rattle.sheet.specs.View.{of_table};
 
 use crate::laws::{filter_laws, median_law};
 use entry::Ink;
-use entry::kinds::ink::*;
 use raster::{Neighbourhood, Window, draw_windowed};
 use refusal::Refusal;
 use sheet::Table;

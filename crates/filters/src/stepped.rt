@@ -5,7 +5,6 @@ ghost use Rattle.raster.specs.Drawn.{Drawn, Pictured};
 ghost use Rattle.sheet.specs.View.{of_table};
 
 use crate::step::Step;
-use entry::kinds::ink::*;
 use entry::{Ink, Tally};
 use raster::{Offsets, cut_at, draw, reflected_cut_at, room};
 use refusal::Refusal;

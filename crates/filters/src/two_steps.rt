@@ -7,7 +7,6 @@ ghost use Rattle.sheet.specs.View.{of_table};
 use crate::step::Step;
 use crate::stepped::draw_step;
 use entry::Ink;
-use entry::kinds::ink::*;
 use raster::Offsets;
 use refusal::Refusal;
 use sheet::{Frame, Table, lay_page};

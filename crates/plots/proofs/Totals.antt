@@ -3,10 +3,9 @@ use Rattle.std.proofs.Common.{◌≡◌, ℕ, ◌+◌, ◌-◌, ◌*◌, ◌/◌
 use Rattle.std.proofs.lemmas.Nat.{div-add-mod', mul-le}
 use Rattle.std.proofs.lemmas.Bool.{and_parts, and_from, cond-true, le-leb, leb-true}
 use Rattle.std.proofs.lemmas.Bool.Decides.{nat_tests}
-use Rattle.entry.specs.Kinds.{whole}
+use Rattle.entry.specs.Kinds.{Whole, whole}
 use Rattle.entry.specs.Numbers.{whole_numbers}
 use Rattle.entry.specs.Sums.{plain_sum, limit_of}
-use Rattle.entry.specs.declared.word.whole.Whole.{Whole}
 use Rattle.entry.proofs.ModularSums.{sum_same}
 use Rattle.questions.specs.Totals.{within_limit, total_answer, plain_total, TotalLaw}
 use Rattle.refusal.specs.Answers.{Answer, accepted, and_then, ensuring}

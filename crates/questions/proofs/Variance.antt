@@ -3,13 +3,11 @@ use Rattle.std.proofs.Common.{◌≡◌, ℕ, zero, suc, ◌+◌, ◌-◌, ◌*�
 use Rattle.std.proofs.lemmas.Nat.{mul-le}
 use Rattle.std.proofs.lemmas.Bool.{cases_Bool, cases_lt, cond-false}
 use Rattle.entry.specs.Exactness.{Exact}
-use Rattle.entry.specs.Kinds.{whole, energy, pair}
+use Rattle.entry.specs.Kinds.{Energy, Whole, whole, energy, pair}
 use Rattle.entry.specs.Numbers.{whole_numbers, energy_numbers}
 use Rattle.entry.specs.Sums.{plain_sum, prefix}
 use Rattle.entry.specs.declared.kind.entry.Entry.{Ghosts}
 use Rattle.entry.specs.declared.kinds.pair.Pair.{Pair}
-use Rattle.entry.specs.declared.word.energy.Energy.{Energy}
-use Rattle.entry.specs.declared.word.whole.Whole.{Whole}
 use Rattle.entry.proofs.ModularSums.{sum_bounded}
 use Rattle.raster.specs.Region.{Bytes}
 use Rattle.refusal.specs.Answers.{accepted, ensuring}

@@ -1,8 +1,7 @@
 -- Mean levels. Assumes nothing.
 use Rattle.std.specs.Prelude.{◌≡◌, ℕ, ◌+◌, ◌/◌, ◌≤◌, min, true, List}
-use Rattle.entry.specs.Kinds.{whole}
+use Rattle.entry.specs.Kinds.{Whole, whole}
 use Rattle.entry.specs.Numbers.{whole_numbers}
-use Rattle.entry.specs.declared.word.whole.Whole.{Whole}
 use Rattle.raster.specs.Region.{Bytes}
 use Rattle.refusal.specs.Answers.{Answer, accepted, ensuring}
 use Rattle.sheet.specs.declared.rectangle.Rectangle.{Rectangle}

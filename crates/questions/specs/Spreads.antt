@@ -1,10 +1,8 @@
 -- How widely the levels of a rectangle spread. Assumes nothing.
 use Rattle.std.specs.Prelude.{◌≡◌, ℕ, ◌-◌, ◌*◌, ◌^◌, ◌≤◌, min, List}
-use Rattle.entry.specs.Kinds.{whole, energy, pair}
+use Rattle.entry.specs.Kinds.{Energy, Whole, whole, energy, pair}
 use Rattle.entry.specs.Numbers.{whole_numbers, energy_numbers}
 use Rattle.entry.specs.declared.kinds.pair.Pair.{Pair}
-use Rattle.entry.specs.declared.word.energy.Energy.{Energy}
-use Rattle.entry.specs.declared.word.whole.Whole.{Whole}
 use Rattle.raster.specs.Region.{Bytes}
 use Rattle.refusal.specs.Answers.{Answer, accepted, ensuring}
 use Rattle.sheet.specs.declared.rectangle.Rectangle.{Rectangle}

@@ -1,8 +1,7 @@
 -- Questions on the window about each pixel of a whole sheet. Assumes nothing.
 use Rattle.std.specs.Prelude.{◌≡◌, ℕ, ◌<◌, ◌≤◌, List}
-use Rattle.entry.specs.Kinds.{whole}
+use Rattle.entry.specs.Kinds.{Whole, whole}
 use Rattle.entry.specs.Numbers.{whole_numbers}
-use Rattle.entry.specs.declared.word.whole.Whole.{Whole}
 use Rattle.raster.specs.Region.{Bytes, window_byte, window_total, window_count}
 use Rattle.raster.specs.declared.offsets.Window.{Window}
 use Rattle.sheet.specs.Page.{Levels}

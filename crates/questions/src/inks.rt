@@ -9,7 +9,6 @@ ghost use Rattle.raster.specs.Region.{point, window_byte};
 ghost use Rattle.sheet.specs.View.{of_table};
 
 use entry::Whole;
-use entry::kinds::whole::*;
 use raster::{Neighbourhood, POINT, Window, draw_windowed, regions_are_exact, room};
 use refusal::Refusal;
 use sheet::Table;

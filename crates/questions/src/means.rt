@@ -10,7 +10,6 @@ ghost use Rattle.refusal.specs.Answers.{told};
 ghost use Rattle.sheet.specs.View.{of_table};
 
 use crate::totals::total_laws;
-use entry::kinds::whole::*;
 use entry::{Tally, Whole};
 use raster::{Neighbourhood, Window, draw_windowed, regions_are_exact};
 use refusal::Refusal;

@@ -5,9 +5,6 @@ ghost use Rattle.refusal.specs.Answers.{told};
 ghost use Rattle.sheet.specs.Sheet.{SumLaw};
 ghost use Rattle.sheet.specs.View.{of_table};
 
-use entry::kinds::energy::*;
-use entry::kinds::pair::*;
-use entry::kinds::whole::*;
 use entry::laws::sums_are_exact;
 use entry::{Energy, Entry, Pair, Tally, Whole};
 use refusal::Refusal;

@@ -5,16 +5,6 @@ mod page;
 mod random;
 mod trial;
 
-use entry::kinds::energy::*;
-use entry::kinds::ink::*;
-use entry::kinds::narrow::*;
-use entry::kinds::pair::*;
-use entry::kinds::parity::*;
-use entry::kinds::whole::*;
-use entry::word::energy::*;
-use entry::word::narrow::*;
-use entry::word::parity::*;
-use entry::word::whole::*;
 use entry::{Energy, Ink, Narrow, Pair, Parity, Whole};
 use random::Random;
 use std::io;

@@ -1,7 +1,5 @@
 // A pair of kinds is a kind.
-ghost use Rattle.std.specs.Prelude.{◌≡◌};
 ghost use Rattle.entry.specs.Kinds.{pair};
-ghost use Rattle.entry.specs.Taken.{taken};
 ghost use Rattle.std.proofs.Common.{rules};
 
 use crate::kind::entry::Entry;
@@ -12,17 +10,6 @@ use crate::kind::weighable::Weighable;
 pub struct Pair<A, B> {
     pub first: A,
     pub second: B,
-}
-
-impl<A: Weighable, B: Weighable> Pair<A, B> {
-    fn scaled(self, w: i8) -> Pair<A, B>
-        ensures { result ≡ taken (pair A.Entry B.Entry) w self }
-    {
-        Pair {
-            first: self.first.times(w),
-            second: self.second.times(w),
-        }
-    }
 }
 
 impl<A: Entry, B: Entry> Entry for Pair<A, B> {
@@ -73,6 +60,9 @@ impl<A: Entry, B: Entry> Entry for Pair<A, B> {
 
 impl<A: Weighable, B: Weighable> Weighable for Pair<A, B> {
     fn times(self, w: i8) -> Pair<A, B> {
-        self.scaled(w)
+        Pair {
+            first: self.first.times(w),
+            second: self.second.times(w),
+        }
     }
 }

@@ -1,32 +1,14 @@
-// The parity: words of 64 bits with exclusive or; level g changes bit g / 4.
-ghost use Rattle.std.specs.Prelude.{◌≡◌, ℕ, ◌%◌, ◌^◌};
-ghost use Rattle.entry.specs.Words.{word};
-ghost use Rattle.entry.specs.Kinds.{parities, parity};
-ghost use Rattle.entry.specs.Taken.{taken};
+// The parity: words of 64 bits with exclusive or.
+ghost use Rattle.entry.specs.Kinds.{parity};
 ghost use Rattle.entry.specs.Xor.{parity_group};
 
 use crate::kind::entry::Entry;
 use crate::kind::weighable::Weighable;
-use crate::word::parity::Parity;
+use crate::kinds::Parity;
+use crate::word::Word;
 
-impl Parity {
-    fn of(value: u64) -> Parity
-        ensures { (n : ℕ) → n % 2 ^ 64 ≡ value % 2 ^ 64 → result ≡ word parities n }
-    {
-        Parity { value }
-    }
-
-    // An entry and itself cancel, so only the lowest bit of `w` counts.
-    fn scaled(self, w: i8) -> Parity
-        ensures { result ≡ taken parity w self }
-    {
-        if w.cast_unsigned() % 2 == 0 {
-            Parity::of(0)
-        } else {
-            self
-        }
-    }
-}
+// Level g flips bit g / 4, which it shares with three others.
+pub struct Flip;
 
 impl Entry for Parity {
     ghost neutral = { parity.neutral };
@@ -46,11 +28,11 @@ impl Entry for Parity {
     ghost inverses = { parity_group.inverses };
 
     fn zero() -> Parity {
-        Parity::of(0)
+        Word::of(0)
     }
 
     fn join(self, other: Parity) -> Parity {
-        Parity::of(self.value ^ other.value)
+        Word::of(self.value ^ other.value)
     }
 
     fn inverse(self) -> Parity {
@@ -58,12 +40,17 @@ impl Entry for Parity {
     }
 
     fn lift(level: u8) -> Parity {
-        Parity::of(1 << (level / 4))
+        Word::of(1 << (level / 4))
     }
 }
 
 impl Weighable for Parity {
+    // An entry and itself cancel, so only the lowest bit of `w` counts.
     fn times(self, w: i8) -> Parity {
-        self.scaled(w)
+        if w.cast_unsigned() % 2 == 0 {
+            Parity::zero()
+        } else {
+            self
+        }
     }
 }

@@ -1,0 +1,28 @@
+// The tallies: sums that are read as numbers of 32 bits.
+ghost use Rattle.std.proofs.Common.{rules};
+
+use crate::amount::Amount;
+use crate::kind::tally::Tally;
+use crate::kind::wide::WideTally;
+use crate::kinds::{Ink, Narrow, Whole};
+use crate::word::Word;
+
+impl Tally for Narrow {
+    fn value(self) -> u32 {
+        self.value as u32
+    }
+}
+
+impl<A: Amount> Tally for Word<u32, A> {
+    fn value(self) -> u32 {
+        self.value
+    }
+}
+
+impl WideTally for Whole {
+    ghost spacious = { Prim.search rules };
+}
+
+impl WideTally for Ink {
+    ghost spacious = { Prim.search rules };
+}
