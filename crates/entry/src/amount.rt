@@ -29,7 +29,7 @@ impl Amount for Level {
     ghost amount = { λ g. g };
 
     fn amount(level: u8) -> u16 {
-        level as u16
+        u16::from(level)
     }
 
     ghost bounded = { λ g h. omega arith };
@@ -43,7 +43,7 @@ impl Amount for Square {
     ghost amount = { λ g. g * g };
 
     fn amount(level: u8) -> u16 {
-        level as u16 * level as u16
+        u16::from(level) * u16::from(level)
     }
 
     ghost bounded = { Prim.search rules };
@@ -57,7 +57,7 @@ impl Amount for Pixel {
     ghost amount = { λ g. min g 1 };
 
     fn amount(level: u8) -> u16 {
-        level.min(1) as u16
+        u16::from(level.min(1))
     }
 
     ghost bounded = { λ g h. omega arith };

@@ -16,85 +16,77 @@ enum Strips {
     Columns,
 }
 
-impl Strips {
-    fn count(self, rect: Rectangle) -> usize
-        requires { on_sheet 4096 4096 rect ≡ true }
-        ensures { result ≡ strip_count self rect }
+// A rectangle that lies on the largest sheet, cut into strips.
+#[derive(Clone, Copy)]
+struct Stripped {
+    strips: Strips,
+    rect: Rectangle,
+    ghost on: { on_sheet 4096 4096 rect ≡ true },
+}
+
+impl Stripped {
+    fn count(self) -> usize
+        ensures count { result ≡ strip_count self.strips self.rect }
+        ensures few { result ≤ 4096 }
     {
-        match self {
-            Strips::Rows => rect.bottom + 1 - rect.top,
-            Strips::Columns => rect.right + 1 - rect.left,
+        match self.strips {
+            Strips::Rows => self.rect.bottom + 1 - self.rect.top,
+            Strips::Columns => self.rect.right + 1 - self.rect.left,
         }
     }
 
     // The columns of strip `i`.
-    fn columns(self, rect: Rectangle, i: usize) -> Span
-        requires on { on_sheet 4096 4096 rect ≡ true }
-        requires few { i < 4096 }
-        ensures { result ≡ strip_columns self rect i }
+    fn columns(self, i: usize) -> Span
+        requires { i < 4096 }
+        ensures { result ≡ strip_columns self.strips self.rect i }
     {
-        match self {
+        match self.strips {
             Strips::Rows => Span {
-                start: rect.left,
-                end: rect.right + 1,
+                start: self.rect.left,
+                end: self.rect.right + 1,
             },
             Strips::Columns => Span {
-                start: rect.left + i,
-                end: rect.left + i + 1,
+                start: self.rect.left + i,
+                end: self.rect.left + i + 1,
             },
         }
     }
 
     // The rows of strip `i`.
-    fn rows(self, rect: Rectangle, i: usize) -> Span
-        requires on { on_sheet 4096 4096 rect ≡ true }
-        requires few { i < 4096 }
-        ensures { result ≡ strip_rows self rect i }
+    fn rows(self, i: usize) -> Span
+        requires { i < 4096 }
+        ensures { result ≡ strip_rows self.strips self.rect i }
     {
-        match self {
+        match self.strips {
             Strips::Rows => Span {
-                start: rect.top + i,
-                end: rect.top + i + 1,
+                start: self.rect.top + i,
+                end: self.rect.top + i + 1,
             },
             Strips::Columns => Span {
-                start: rect.top,
-                end: rect.bottom + 1,
+                start: self.rect.top,
+                end: self.rect.bottom + 1,
             },
         }
     }
 }
 
 // Makes each number the total of its strip.
-fn total_strips<T: WideTally>(
-    table: &Table<'_, T>,
-    rect: Rectangle,
-    strips: Strips,
-    totals: &mut [u32],
-)
-    requires on { on_sheet 4096 4096 rect ≡ true }
-    requires few { length totals.old ≤ 4096 }
-    ensures { (i : ℕ) → i < length totals.old → slice_index totals.new i ≡ of_table table.now (strip_total T.Entry T.Modular.own) strips rect i }
+fn total_strips<T: WideTally>(table: &Table<'_, T>, stripped: Stripped, totals: &mut [u32])
+    requires { length totals.old ≤ 4096 }
+    ensures { (i : ℕ) → i < length totals.old → slice_index totals.new i ≡ of_table table.now (strip_total T.Entry T.Modular.own) stripped.strips stripped.rect i }
 {
     for (i, total) in totals.iter_mut().enumerate() {
-        *total = table
-            .cut_sum(strips.columns(rect, i), strips.rows(rect, i))
-            .value();
+        *total = table.cut_sum(stripped.columns(i), stripped.rows(i)).value();
     }
 }
 
 // Writes the total of each strip to the front of the list.
-fn lay_totals<T: WideTally>(
-    table: &Table<'_, T>,
-    rect: Rectangle,
-    strips: Strips,
-    totals: &mut [u32],
-)
-    requires on { on_sheet 4096 4096 rect ≡ true }
-    requires room { strip_count strips rect ≤ length totals.old }
-    ensures { totals.new ≡ laid (of_table table.now (strip_total T.Entry T.Modular.own) strips rect) (strip_count strips rect) totals.old }
+fn lay_totals<T: WideTally>(table: &Table<'_, T>, stripped: Stripped, totals: &mut [u32])
+    requires { strip_count stripped.strips stripped.rect ≤ length totals.old }
+    ensures { totals.new ≡ laid (of_table table.now (strip_total T.Entry T.Modular.own) stripped.strips stripped.rect) (strip_count stripped.strips stripped.rect) totals.old }
 {
-    let count = strips.count(rect);
-    total_strips(table, rect, strips, &mut totals[0..count]);
+    let count = stripped.count();
+    total_strips(table, stripped, &mut totals[0..count]);
 }
 
 // What lateral totals are on the table of any page; no code runs.
@@ -116,12 +108,20 @@ pub fn lateral_totals<T: WideTally>(
     if !rect.is_on(table.frame.width, table.frame.height) {
         return Err(Refusal::OffSheet);
     }
-    let row_count = Strips::Rows.count(rect);
-    let column_count = Strips::Columns.count(rect);
+    let by_rows = Stripped {
+        strips: Strips::Rows,
+        rect,
+    };
+    let by_columns = Stripped {
+        strips: Strips::Columns,
+        rect,
+    };
+    let row_count = by_rows.count();
+    let column_count = by_columns.count();
     if rows.len() < row_count || columns.len() < column_count {
         return Err(Refusal::ListTooShort);
     }
-    lay_totals(table, rect, Strips::Rows, rows);
-    lay_totals(table, rect, Strips::Columns, columns);
+    lay_totals(table, by_rows, rows);
+    lay_totals(table, by_columns, columns);
     Ok(row_count + column_count)
 }

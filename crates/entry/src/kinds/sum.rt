@@ -72,6 +72,6 @@ impl<U: Unsigned, A: Amount> Modular for Word<U, A> {
     ghost bounded = { A.bounded };
 
     fn limit() -> usize {
-        U::largest() / A::amount(255) as usize
+        U::largest() / usize::from(A::amount(255))
     }
 }

@@ -9,7 +9,7 @@ use crate::word::Word;
 
 impl Tally for Narrow {
     fn value(self) -> u32 {
-        self.value as u32
+        u32::from(self.value)
     }
 }
 

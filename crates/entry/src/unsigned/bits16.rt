@@ -16,7 +16,7 @@ impl Unsigned for u16 {
     ghost holds = { (machine w16).holds };
 
     fn from_u16(n: u16) -> u16 {
-        n as u16
+        n
     }
 
     fn from_i8(w: i8) -> u16 {
@@ -36,7 +36,7 @@ impl Unsigned for u16 {
     }
 
     fn largest() -> usize {
-        u16::MAX as usize
+        usize::from(u16::MAX)
     }
 
     ghost roomy = { lit≤ tt };

@@ -16,7 +16,7 @@ impl Unsigned for u32 {
     ghost holds = { (machine w32).holds };
 
     fn from_u16(n: u16) -> u32 {
-        n as u32
+        u32::from(n)
     }
 
     fn from_i8(w: i8) -> u32 {

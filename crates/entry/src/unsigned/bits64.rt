@@ -16,7 +16,7 @@ impl Unsigned for u64 {
     ghost holds = { (machine w64).holds };
 
     fn from_u16(n: u16) -> u64 {
-        n as u64
+        u64::from(n)
     }
 
     fn from_i8(w: i8) -> u64 {

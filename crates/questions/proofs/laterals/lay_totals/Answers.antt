@@ -9,8 +9,8 @@ pub returns : goal.returns
 returns g c =
     let old = c.args.totals.now in
     let part = c.total_strips.new.totals in
-    let n = strip_count c.args.strips c.args.rect in
+    let n = strip_count c.args.stripped.strips c.args.stripped.rect in
     let m = c.count-count.result - 0 in
-    let same : m ≡ n = omega (arith, c.count-count.ensures) in
+    let same : m ≡ n = omega (arith, c.count-count.ensures.count) in
     let long : length part ≡ m = c.total_strips.auto.totals ∙ length-take-le m (drop 0 old) (omega (arith, length-drop 0 old, same)) in
-    laid_part (of_table c.args.table.now (strip_total g.T.Entry g.T.Modular) c.args.strips c.args.rect) n old m part same long (omega arith) (λ i lt. c.total_strips.ensures i (omega (arith, long, same, c.total_strips.auto.totals)))
+    laid_part (of_table c.args.table.now (strip_total g.T.Entry g.T.Modular) c.args.stripped.strips c.args.stripped.rect) n old m part same long (omega arith) (λ i lt. c.total_strips.ensures i (omega (arith, long, same, c.total_strips.auto.totals)))
