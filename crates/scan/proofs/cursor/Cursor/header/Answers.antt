@@ -1,6 +1,6 @@
 use Rattle.std.proofs.Common.{rules}
 use Rattle.scan.specs.Reading.{header_answer}
-use Rattle.scan.proofs.reader.header.Goals as goal
+use Rattle.scan.proofs.cursor.Cursor.header.Goals as goal
 
 pub returns-in_err-width : goal.returns-in_err-width
 unfolding header_answer
