@@ -1,86 +1,100 @@
 // Sheets of each kind, with edits laid on them, and every question asked of them many times.
 use crate::filtered::ask_filter;
-use crate::page::{Page, SIDE};
 use crate::pages::ask_page;
-use crate::random::Random;
-use crate::rectangles::{Measure, ask_laterals, ask_mean, ask_spread, ask_total};
+use crate::rectangles::ask_laterals;
 use crate::score::Score;
-use crate::trial::{ENTRIES, REST, edit, grow, rectangle};
+use beside::{ENTRIES, Random, Watched};
 use entry::{Energy, Entry, Ink, Narrow, Pair, Whole};
-use sheet::Finished;
+use questions::{mean, spread, total};
 use std::alloc::{AllocError, Global};
 
 const SHEETS: usize = 200;
 
 const QUESTIONS: usize = 20;
 
+// Draws the questions, and keeps the score of their answers.
+#[derive(Drop)]
+pub(crate) struct Asker {
+    pub(crate) random: Random,
+    pub(crate) score: Score,
+}
+
 // A kind of sheet, and what can be asked of it.
 pub(crate) trait Asked: Entry {
-    fn ask(sheet: &Finished<'_, Self>, page: &Page, random: &mut Random, score: &mut Score);
+    fn ask(watched: &Watched<'_, Self>, asker: &mut Asker);
 }
 
 impl Asked for Narrow {
-    fn ask(sheet: &Finished<'_, Narrow>, page: &Page, random: &mut Random, score: &mut Score) {
-        ask_total(&sheet.table(), page, Measure::Levels, random, score);
+    fn ask(watched: &Watched<'_, Narrow>, asker: &mut Asker) {
+        let table = watched.sheet.table();
+        asker.ask_rectangle(
+            &watched.page,
+            |r| total(&table, r),
+            |counted| counted.levels,
+        );
     }
 }
 
 impl Asked for Whole {
-    fn ask(sheet: &Finished<'_, Whole>, page: &Page, random: &mut Random, score: &mut Score) {
-        let table = sheet.table();
-        ask_total(&table, page, Measure::Levels, random, score);
-        ask_laterals(&table, page, Measure::Levels, random, score);
-        ask_mean(&table, page, random, score);
-        ask_page(&table, page, random, score);
+    fn ask(watched: &Watched<'_, Whole>, asker: &mut Asker) {
+        let table = watched.sheet.table();
+        asker.ask_rectangle(
+            &watched.page,
+            |r| total(&table, r),
+            |counted| counted.levels,
+        );
+        ask_laterals(watched, |counted| counted.levels, asker);
+        asker.ask_rectangle(&watched.page, |r| mean(&table, r), |counted| counted.mean());
+        ask_page(watched, asker);
     }
 }
 
 impl Asked for Ink {
-    fn ask(sheet: &Finished<'_, Ink>, page: &Page, random: &mut Random, score: &mut Score) {
-        let table = sheet.table();
-        ask_total(&table, page, Measure::Ink, random, score);
-        ask_laterals(&table, page, Measure::Ink, random, score);
-        ask_filter(&table, page, random, score);
+    fn ask(watched: &Watched<'_, Ink>, asker: &mut Asker) {
+        let table = watched.sheet.table();
+        asker.ask_rectangle(&watched.page, |r| total(&table, r), |counted| counted.ink);
+        ask_laterals(watched, |counted| counted.ink, asker);
+        ask_filter(watched, asker);
     }
 }
 
 impl Asked for Pair<Whole, Energy> {
-    fn ask(
-        sheet: &Finished<'_, Pair<Whole, Energy>>,
-        page: &Page,
-        random: &mut Random,
-        score: &mut Score,
-    ) {
-        ask_spread(&sheet.table(), page, random, score);
+    fn ask(watched: &Watched<'_, Pair<Whole, Energy>>, asker: &mut Asker) {
+        let table = watched.sheet.table();
+        asker.ask_rectangle(
+            &watched.page,
+            |r| spread(&table, r),
+            |counted| counted.spread(),
+        );
     }
 }
 
-// One sheet, with an edit before each question.
-fn sheet<E: Asked>(memory: &mut [E], random: &mut Random, score: &mut Score) {
-    let width = random.below(SIDE).wrapping_add(1);
-    let height = random.below(SIDE).wrapping_add(1);
-    let mut page = Page::new(REST);
-    let mut sheet = grow(memory, width, height, &mut page, random);
-    for _ in 0..QUESTIONS {
-        let rect = rectangle(width, height, random);
-        edit(&mut sheet, &mut page, rect, random);
-        E::ask(&sheet, &page, random, score);
+impl Asker {
+    pub(crate) fn new(random: Random) -> Asker {
+        Asker {
+            random,
+            score: Score::new(),
+        }
     }
-    let _ = sheet.file();
-}
 
-// Many sheets of one kind.
-pub(crate) fn questions_of<E: Asked>(
-    heap: Global,
-    random: &mut Random,
-) -> Result<Score, AllocError> {
-    let mut score = Score::new();
-    let mut memory = Vec::new(heap);
-    for _ in 0..ENTRIES {
-        memory.push(E::zero())?;
+    // One sheet, with an edit before each question.
+    fn ask_sheet<E: Asked>(&mut self, memory: &mut [E]) {
+        let mut watched = Watched::grow(memory, &mut self.random);
+        for _ in 0..QUESTIONS {
+            watched.edit(&mut self.random);
+            E::ask(&watched, self);
+        }
+        let Watched { sheet, page: _ } = watched;
+        let _ = sheet.file();
     }
-    for _ in 0..SHEETS {
-        sheet(memory.as_mut_slice(), random, &mut score);
+
+    // Many sheets of one kind, and their score.
+    pub(crate) fn ask_sheets<E: Asked>(&mut self, heap: Global) -> Result<Score, AllocError> {
+        self.score = Score::new();
+        let mut memory = vec![in heap; E::zero(); ENTRIES]?;
+        for _ in 0..SHEETS {
+            self.ask_sheet(memory.as_mut_slice());
+        }
+        Ok(self.score)
     }
-    Ok(score)
 }

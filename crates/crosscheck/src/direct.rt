@@ -1,5 +1,5 @@
 // What pixels have together, counted one by one on the page.
-use crate::page::Page;
+use beside::{Page, Pixels};
 use raster::Window;
 use sheet::Rectangle;
 
@@ -7,9 +7,9 @@ use sheet::Rectangle;
 #[derive(Clone, Copy)]
 pub(crate) struct Counted {
     pub(crate) pixels: u64,
-    pub(crate) ink: u64,
-    pub(crate) levels: u64,
-    pub(crate) squares: u64,
+    pub(crate) ink: u32,
+    pub(crate) levels: u32,
+    squares: u64,
 }
 
 impl Counted {
@@ -22,64 +22,55 @@ impl Counted {
         }
     }
 
-    fn add(&mut self, level: u8) {
-        let g = u64::from(level);
-        self.pixels = self.pixels.wrapping_add(1);
-        self.ink = self.ink.wrapping_add(g.min(1));
-        self.levels = self.levels.wrapping_add(g);
-        self.squares = self.squares.wrapping_add(g.wrapping_mul(g));
+    fn with(self, level: u8) -> Counted {
+        let square = u64::from(level).wrapping_mul(u64::from(level));
+        Counted {
+            pixels: self.pixels.wrapping_add(1),
+            ink: self.ink.wrapping_add(u32::from(level.min(1))),
+            levels: self.levels.wrapping_add(u32::from(level)),
+            squares: self.squares.wrapping_add(square),
+        }
+    }
+
+    // The pixels of a rectangle.
+    pub(crate) fn of(page: &Page, rect: Rectangle) -> Counted {
+        Pixels::of(rect)
+            .map(|(x, y)| page.level(x, y))
+            .fold(Counted::none(), |counted, level| counted.with(level))
+    }
+
+    // The pixels on the page that lie in the window of (x, y).
+    pub(crate) fn about(page: &Page, window: Window, x: usize, y: usize) -> Counted {
+        page.size
+            .pixels()
+            .filter(|&(i, j)| {
+                is_near(x, i, window.left, window.right) && is_near(y, j, window.up, window.down)
+            })
+            .map(|(i, j)| page.level(i, j))
+            .fold(Counted::none(), |counted, level| counted.with(level))
     }
 
     // The mean to the nearest whole level, halves upwards.
     pub(crate) fn mean(self) -> u64 {
-        let twice = self.levels.wrapping_mul(2).wrapping_add(self.pixels);
+        let twice = u64::from(self.levels)
+            .wrapping_mul(2)
+            .wrapping_add(self.pixels);
         twice.checked_div(self.pixels.wrapping_mul(2)).unwrap_or(0)
     }
 
     pub(crate) fn spread(self) -> u64 {
+        let levels = u64::from(self.levels);
         self.pixels
             .wrapping_mul(self.squares)
-            .wrapping_sub(self.levels.wrapping_mul(self.levels))
+            .wrapping_sub(levels.wrapping_mul(levels))
     }
 }
 
 // Whether `i` is at most `before` below `x` and at most `after` above it.
-fn near(x: usize, i: usize, before: u8, after: u8) -> bool {
+fn is_near(x: usize, i: usize, before: u8, after: u8) -> bool {
     if i < x {
-        x - i <= before as usize
+        x - i <= usize::from(before)
     } else {
-        i - x <= after as usize
-    }
-}
-
-impl Page {
-    pub(crate) fn count(&self, rect: Rectangle) -> Counted {
-        let mut counted = Counted::none();
-        for y in rect.top..=rect.bottom {
-            for x in rect.left..=rect.right {
-                counted.add(self.level(x, y));
-            }
-        }
-        counted
-    }
-
-    // The pixels of a window that are on a sheet of that size.
-    pub(crate) fn count_window(
-        &self,
-        width: usize,
-        height: usize,
-        window: Window,
-        x: usize,
-        y: usize,
-    ) -> Counted {
-        let mut counted = Counted::none();
-        for j in 0..height {
-            for i in 0..width {
-                if near(x, i, window.left, window.right) && near(y, j, window.up, window.down) {
-                    counted.add(self.level(i, j));
-                }
-            }
-        }
-        counted
+        i - x <= usize::from(after)
     }
 }

@@ -1,22 +1,20 @@
 // Filters on ink sheets.
-use crate::page::Page;
+use crate::asked::Asker;
+use crate::drawn::{BEFORE, ROOM, Room, bytes_of};
 use crate::pages::any_window;
-use crate::random::Random;
-use crate::score::Score;
-use crate::shape::{InkPage, Shape};
+use crate::shape::{Shape, dilated, eroded, ink_of, majority};
+use beside::{Page, Random, Watched};
 use entry::{Entry, Ink};
 use filters::{closing, dilation, erosion, median, opening};
 use raster::Window;
 use refusal::Refusal;
 use sheet::{Rectangle, Table};
 
-// Room for a page of 8 by 8 bytes, and for its table, and some more.
-const ROOM: usize = 72;
-
+// Room for the table of a page of 8 by 8 levels, and some more.
 const ENTRIES: usize = 84;
 
-// What lies in the memory of a page before it is drawn.
-const BEFORE: u8 = 77;
+// The level of the entries that lie in the memory of a table before it is laid.
+const BLANK: u8 = 9;
 
 #[derive(Clone, Copy)]
 enum Filter {
@@ -38,6 +36,10 @@ impl Filter {
         }
     }
 
+    fn has_two_steps(self) -> bool {
+        matches!(self, Filter::Opening | Filter::Closing)
+    }
+
     fn ask(
         self,
         table: &Table<'_, Ink>,
@@ -55,154 +57,90 @@ impl Filter {
         }
     }
 
-    // The answer for a page of `n` bytes, with memory of that room for it and that many entries for the table between.
-    fn answer(
-        self,
-        n: usize,
-        room: usize,
-        needed: usize,
-        entries: usize,
-        shape: &Shape,
-    ) -> Result<usize, Refusal> {
-        let two_steps = matches!(self, Filter::Opening | Filter::Closing);
-        if two_steps && entries < needed {
+    // The answer, with that memory for the page and for the table between two steps.
+    fn answer(self, page: Room, between: Room, shape: &Shape) -> Result<usize, Refusal> {
+        if self.has_two_steps() && between.is_short() {
             return Err(Refusal::TableTooShort);
         }
-        if room < n {
+        if page.is_short() {
             return Err(Refusal::ListTooShort);
         }
         match self {
-            Filter::Median(_) => Ok(n),
+            Filter::Median(_) => Ok(page.needed),
             _ if shape.is_empty() => Err(Refusal::NoRectangle),
-            _ => Ok(n),
+            _ => Ok(page.needed),
         }
     }
 
     // The page between two steps, or the page as it is.
-    fn between(self, ink: &InkPage, shape: &Shape) -> InkPage {
+    fn between(self, ink: &Page, shape: &Shape) -> Page {
         match self {
-            Filter::Opening => ink.eroded(shape),
-            Filter::Closing => ink.dilated(shape),
+            Filter::Opening => eroded(ink, shape),
+            Filter::Closing => dilated(ink, shape),
             _ => *ink,
         }
     }
 
-    fn after(self, page: &Page, between: &InkPage, shape: &Shape) -> InkPage {
+    fn after(self, page: &Page, between: &Page, shape: &Shape) -> Page {
         match self {
-            Filter::Median(window) => between.median(page, window),
-            Filter::Erosion | Filter::Closing => between.eroded(shape),
-            Filter::Dilation | Filter::Opening => between.dilated(shape),
+            Filter::Median(window) => majority(page, window),
+            Filter::Erosion | Filter::Closing => eroded(between, shape),
+            Filter::Dilation | Filter::Opening => dilated(between, shape),
         }
     }
 }
 
 // Whether the table has one more ink pixel at each ink pixel of the page.
-fn holds(table: &Table<'_, Ink>, ink: &InkPage) -> bool {
-    for y in 0..table.frame.height {
-        for x in 0..table.frame.width {
-            let pixel = Rectangle {
-                left: x,
-                top: y,
-                right: x,
-                bottom: y,
-            };
-            let lifted = Ink::lift(u8::from(ink.is_ink(x, y)));
-            let same = match table.sum(pixel) {
-                Ok(sum) => sum == lifted,
-                Err(_) => false,
-            };
-            if !same {
-                return false;
-            }
-        }
-    }
-    true
+fn holds(table: &Table<'_, Ink>, ink: &Page) -> bool {
+    ink.size.pixels().all(|(x, y)| {
+        let pixel = Rectangle {
+            left: x,
+            top: y,
+            right: x,
+            bottom: y,
+        };
+        table.sum(pixel) == Ok(Ink::lift(ink.level(x, y)))
+    })
 }
 
 // Whether the second memory holds the table of that page, or is as it was where that is none.
-fn between_holds(
-    between: &[Ink; ENTRIES],
-    width: usize,
-    height: usize,
-    page: Option<InkPage>,
-    needed: usize,
-) -> bool {
-    match page {
-        None => {
-            for entry in between {
-                if *entry != Ink::lift(9) {
-                    return false;
-                }
-            }
-            true
-        }
+fn between_holds(between: &[Ink; ENTRIES], laid: Option<Page>, needed: usize) -> bool {
+    let blank = Ink::lift(BLANK);
+    match laid {
+        None => between.iter().all(|entry| *entry == blank),
         Some(ink) => {
-            for entry in between.iter().skip(needed) {
-                if *entry != Ink::lift(9) {
-                    return false;
-                }
-            }
-            match Table::of(between, width, height) {
-                Ok(table) => holds(&table, &ink),
-                Err(_) => false,
-            }
+            between.iter().skip(needed).all(|entry| *entry == blank)
+                && Table::of(between, ink.size.width, ink.size.height).is_ok_and(|table| holds(
+                    &table, &ink,
+                ))
         }
     }
-}
-
-// Memory with a page of ink in front.
-fn bytes_of(ink: &InkPage, width: usize, height: usize) -> [u8; ROOM] {
-    let mut bytes = [BEFORE; ROOM];
-    for y in 0..height {
-        for x in 0..width {
-            let at = y.wrapping_mul(width).wrapping_add(x);
-            if at < ROOM {
-                bytes[at] = u8::from(ink.is_ink(x, y));
-            }
-        }
-    }
-    bytes
 }
 
 // One filter, worked out on the page beside the sheet.
-pub(crate) fn ask_filter(
-    table: &Table<'_, Ink>,
-    page: &Page,
-    random: &mut Random,
-    score: &mut Score,
-) {
-    let filter = Filter::any(random);
-    let shape = Shape::any(random);
-    let n = table.frame.width.wrapping_mul(table.frame.height);
-    let needed = table
-        .width
-        .wrapping_add(1)
-        .wrapping_mul(table.frame.height.wrapping_add(1));
-    let room = n.wrapping_add(random.below(8)).wrapping_sub(1).min(ROOM);
-    let entries = needed
-        .wrapping_add(random.below(8))
-        .wrapping_sub(1)
-        .min(ENTRIES);
+pub(crate) fn ask_filter(watched: &Watched<'_, Ink>, asker: &mut Asker) {
+    let page = &watched.page;
+    let filter = Filter::any(&mut asker.random);
+    let shape = Shape::any(&mut asker.random);
+    let (width, height) = (page.size.width, page.size.height);
+    let bytes = Room::any(width * height, ROOM, &mut asker.random);
+    let entries = Room::any((width + 1) * (height + 1), ENTRIES, &mut asker.random);
     let mut drawn = [BEFORE; ROOM];
-    let mut between = [Ink::lift(9); ENTRIES];
-    let answer = filter.ask(table, &shape, &mut between[0..entries], &mut drawn[0..room]);
-    let wanted = filter.answer(n, room, needed, entries, &shape);
-    let ink = InkPage::of(page, table.frame.width, table.frame.height);
-    let middle = filter.between(&ink, &shape);
-    let after = filter.after(page, &middle, &shape);
-    let bytes = match wanted {
-        Ok(_) => bytes_of(&after, table.frame.width, table.frame.height),
-        Err(_) => [BEFORE; ROOM],
-    };
-    let two_steps = matches!(filter, Filter::Opening | Filter::Closing);
-    let left = if two_steps && wanted.is_ok() {
-        Some(middle)
-    } else {
-        None
-    };
-    let memory = between_holds(&between, table.frame.width, table.frame.height, left, needed);
-    score.note(
-        wanted.is_err(),
-        answer == wanted && drawn == bytes && memory,
+    let mut between = [Ink::lift(BLANK); ENTRIES];
+    let answer = filter.ask(
+        &watched.sheet.table(),
+        &shape,
+        &mut between[..entries.given],
+        &mut drawn[..bytes.given],
     );
+    let wanted = filter.answer(bytes, entries, &shape);
+    let middle = filter.between(&ink_of(page), &shape);
+    let after = if wanted.is_ok() {
+        bytes_of(&filter.after(page, &middle, &shape))
+    } else {
+        [BEFORE; ROOM]
+    };
+    let laid = (filter.has_two_steps() && wanted.is_ok()).then_some(middle);
+    let same = answer == wanted && drawn == after && between_holds(&between, laid, entries.needed);
+    asker.score.note(wanted.is_err(), same);
 }

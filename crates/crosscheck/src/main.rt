@@ -3,41 +3,48 @@
 
 mod asked;
 mod direct;
+mod drawn;
 mod filtered;
-mod page;
 mod pages;
-mod random;
 mod rectangles;
 mod score;
 mod shape;
-mod trial;
 
-use asked::questions_of;
-use entry::{Energy, Ink, Narrow, Pair, Parity, Whole};
-use random::Random;
+use asked::{Asked, Asker};
+use beside::{Compared, Levels, Random, trials};
+use entry::{Energy, Entry, Ink, Narrow, Pair, Parity, Whole};
+use std::alloc::AllocGlobal;
 use std::io;
-use trial::trials;
+
+fn print_trials<E: Entry + PartialEq>(
+    rt: &(impl Print + AllocGlobal),
+    name: &str,
+    random: &mut Random,
+) -> io::Result<()> {
+    let tally = trials::<E>(rt.alloc(), random, Compared::Answers)?;
+    println!(rt; "{name}: {tally}")
+}
+
+fn print_score<E: Asked>(
+    rt: &(impl Print + AllocGlobal),
+    sheets: &str,
+    asker: &mut Asker,
+) -> io::Result<()> {
+    let score = asker.ask_sheets::<E>(rt.alloc())?;
+    println!(rt; "questions on {sheets}: {score}")
+}
 
 fn main(rt: HostRuntime) -> io::Result<()> {
-    let mut random = Random::new();
-    let narrow = trials::<Narrow>(rt.alloc(), &mut random)?;
-    println!(rt; "narrow: {narrow}")?;
-    let whole = trials::<Whole>(rt.alloc(), &mut random)?;
-    println!(rt; "whole: {whole}")?;
-    let ink = trials::<Ink>(rt.alloc(), &mut random)?;
-    println!(rt; "ink: {ink}")?;
-    let energy = trials::<Energy>(rt.alloc(), &mut random)?;
-    println!(rt; "energy: {energy}")?;
-    let parity = trials::<Parity>(rt.alloc(), &mut random)?;
-    println!(rt; "parity: {parity}")?;
-    let pair = trials::<Pair<Whole, Energy>>(rt.alloc(), &mut random)?;
-    println!(rt; "pair: {pair}")?;
-    let narrow = questions_of::<Narrow>(rt.alloc(), &mut random)?;
-    println!(rt; "questions on narrow sheets: {narrow}")?;
-    let whole = questions_of::<Whole>(rt.alloc(), &mut random)?;
-    println!(rt; "questions on whole sheets: {whole}")?;
-    let ink = questions_of::<Ink>(rt.alloc(), &mut random)?;
-    println!(rt; "questions on ink sheets: {ink}")?;
-    let pair = questions_of::<Pair<Whole, Energy>>(rt.alloc(), &mut random)?;
-    println!(rt; "questions on sheets of pairs: {pair}")
+    let mut random = Random::new(Levels::HalfBlank);
+    print_trials::<Narrow>(&rt, "narrow", &mut random)?;
+    print_trials::<Whole>(&rt, "whole", &mut random)?;
+    print_trials::<Ink>(&rt, "ink", &mut random)?;
+    print_trials::<Energy>(&rt, "energy", &mut random)?;
+    print_trials::<Parity>(&rt, "parity", &mut random)?;
+    print_trials::<Pair<Whole, Energy>>(&rt, "pair", &mut random)?;
+    let mut asker = Asker::new(random);
+    print_score::<Narrow>(&rt, "narrow sheets", &mut asker)?;
+    print_score::<Whole>(&rt, "whole sheets", &mut asker)?;
+    print_score::<Ink>(&rt, "ink sheets", &mut asker)?;
+    print_score::<Pair<Whole, Energy>>(&rt, "sheets of pairs", &mut asker)
 }

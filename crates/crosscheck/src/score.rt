@@ -1,4 +1,5 @@
-// How many questions were asked, and how they were answered.
+// How many questions were asked, and how they were answered. The counts wrap rather than ask for a bound; no run comes near it.
+use refusal::Refusal;
 use std::fmt;
 
 #[derive(Clone, Copy)]
@@ -27,13 +28,23 @@ impl Score {
             self.different = self.different.wrapping_add(1);
         }
     }
+
+    pub(crate) fn compare<A: Copy + PartialEq>(
+        &mut self,
+        answer: Result<A, Refusal>,
+        wanted: Result<A, Refusal>,
+    ) {
+        self.note(wanted.is_err(), answer == wanted);
+    }
 }
 
 impl fmt::Display for Score {
     fn fmt<W: fmt::Write>(&self, f: &mut fmt::Formatter<W>) -> fmt::Result {
-        let asked = self.asked;
-        let refused = self.refused;
-        let different = self.different;
+        let Score {
+            asked,
+            refused,
+            different,
+        } = *self;
         write!(f, "{asked} asked, {refused} refused, {different} different")
     }
 }

@@ -8,7 +8,7 @@ mod survey;
 mod tests;
 
 use input::fill;
-use outcome::outcome_of;
+use outcome::{PlotError, survey_scan};
 use std::io;
 
 // As much of the input as the program reads.
@@ -17,6 +17,9 @@ const MAX_INPUT: usize = 16_384;
 fn main(rt: HostRuntime) -> io::Result<()> {
     let mut buffer = [0; MAX_INPUT];
     let length = fill(&mut rt.stdin(), &mut buffer)?;
-    let outcome = outcome_of(rt.alloc(), &buffer[0..length])?;
-    println!(rt; "{outcome}")
+    match survey_scan(rt.alloc(), &buffer[..length]) {
+        Ok(surveyed) => println!(rt; "{surveyed}"),
+        Err(PlotError::Refused(report)) => println!(rt; "{report}"),
+        Err(PlotError::OutOfMemory(error)) => Err(io::Error::from(error)),
+    }
 }

@@ -8,7 +8,7 @@ use questions::total;
 use refusal::Refusal;
 use sheet::{Rectangle, Table, lay_page};
 
-// Fills the table of a sheet in `memory`, and adds up all its levels.
+// Fills the table of a sheet in `memory`, and adds up all its levels. The parts of a scan come one by one: of a slice in a struct the proof does not know at the end that its bytes fit.
 pub(crate) fn survey(
     width: usize,
     height: usize,

@@ -1,8 +1,8 @@
 -- Digits, and the number that they write. Assumes nothing.
-use Rattle.std.proofs.Common.{◌≡◌, ℕ, ◌+◌, ◌-◌, ◌*◌, ◌^◌, ◌<◌, ◌≤◌, List, length, get_or, take, sym, ap, ◌∙◌, pow-suc, add-one, arith, lit<}
+use Rattle.std.proofs.Common.{◌≡◌, ℕ, ◌+◌, ◌-◌, ◌*◌, ◌^◌, ◌<◌, ◌≤◌, List, length, get_or, take, drop, sym, ap, pow-suc, add-one, arith, lit<}
 use native.Mathlib.Nat.{pow-le-pow_right}
 use Rattle.std.specs.List.{prefix_len}
-use Rattle.std.proofs.lemmas.List.{take_all}
+use Rattle.std.proofs.lemmas.List.{drop-drop}
 use Rattle.std.proofs.lemmas.List.Sums.{fold_more}
 use Rattle.scan.specs.Reading.{digit, value, digits_of}
 
@@ -19,5 +19,5 @@ pub digits_counted : (xs : List ℕ) (n : ℕ) → n ≡ prefix_len digit xs →
 unfolding digits_of
 digits_counted xs n e = ap (λ k. take k xs) e
 
-pub digits_all : (xs : List ℕ) → length xs ≡ prefix_len digit xs → xs ≡ digits_of xs
-digits_all xs e = sym (take_all (length xs) xs (omega arith)) ∙ digits_counted xs (length xs) e
+pub drop_one_more : (bytes : List ℕ) (at : ℕ) → drop 1 (drop at bytes) ≡ drop (at + 1) bytes
+drop_one_more bytes at = drop-drop 1 at bytes

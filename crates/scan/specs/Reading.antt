@@ -41,8 +41,8 @@ gap_length s [] = 0
 gap_length s (b ∷ bs) = elim (next_state s b) [ Some t ↦ 1 + gap_length t bs | None ↦ 0 ]
 
 -- a result of the reader as an answer, by the values in it
-abbrev pub told : {R A : Type 0} → (R → A) → Result R ScanFault → Answer A
-told values = answer_of values (λ f. f.refusal) (λ f. f.place)
+abbrev pub read_answer : {R A : Type 0} → (R → A) → Result R ScanFault → Answer A
+read_answer values = answer_of values (λ f. f.refusal) (λ f. f.place)
 
 abbrev pub report_of : ScanFault → Report
 report_of f = record { refusal = f.refusal; place = f.place; layer = Reader }

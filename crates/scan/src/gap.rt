@@ -32,7 +32,7 @@ impl GapState {
     }
 }
 
-// How many bytes of white space and comments come first.
+// How many bytes of white space and comments come first. A loop, since the state that a byte meets is that of the bytes before it.
 pub(crate) fn gap_length(bytes: &[u8]) -> usize
     ensures count { result ≡ gap_length Start bytes.now }
     ensures within { result ≤ length bytes.now }

@@ -1,10 +1,11 @@
 // The scan file as a whole: two magic bytes, three numbers, and the levels.
-ghost use Rattle.std.specs.Prelude.{◌≡◌, ◌<◌, ◌≤◌, length, IfOk};
+ghost use Rattle.std.specs.Prelude.{◌≡◌, ◌+◌, ◌≤◌, IfOk};
 ghost use Rattle.scan.specs.Format.{ReadsBack};
-ghost use Rattle.scan.specs.Reading.{told, image_of, side_answer, maxval_answer, levels_answer, header_answer, scan_answer};
+ghost use Rattle.scan.specs.Reading.{read_answer, image_of, side_answer, maxval_answer, levels_answer, header_answer, scan_answer};
 
+use crate::cursor::Cursor;
 use crate::fault::ScanFault;
-use crate::numeral::{Numeral, number};
+use crate::numeral::Numeral;
 use refusal::Refusal;
 
 // The longest side of a scan.
@@ -18,68 +19,66 @@ pub struct Scan<'a> {
     pub levels: &'a [u8],
 }
 
-// A width or a height.
-fn side(bytes: &[u8], at: usize) -> Result<Numeral, ScanFault>
-    requires { at ≤ length bytes.now }
-    ensures answer { told (λ n. n) result ≡ side_answer bytes.now at }
-    ensures within { IfOk result (λ n. (n.after < length bytes.now) × (n.value ≤ 4096)) }
-{
-    let side = number(bytes, at)?;
-    if side.value == 0 || side.value > MAX_SIDE {
-        return Err(ScanFault {
-            refusal: Refusal::ScanSide,
-            place: side.first,
-        });
+impl<'a> Cursor<'a> {
+    // A width or a height.
+    fn side(self) -> Result<Numeral, ScanFault>
+        ensures answer { read_answer (λ n. n) result ≡ side_answer self.entry.bytes.now self.entry.at }
+        ensures within { IfOk result (λ n. n.value ≤ 4096) }
+    {
+        let side = self.number()?;
+        side.ensure(1 <= side.value && side.value <= MAX_SIDE, Refusal::ScanSide)
     }
-    Ok(side)
-}
 
-// The largest level, which has to be 255.
-fn maxval(bytes: &[u8], at: usize) -> Result<Numeral, ScanFault>
-    requires { at ≤ length bytes.now }
-    ensures answer { told (λ n. n) result ≡ maxval_answer bytes.now at }
-    ensures within { IfOk result (λ n. n.after < length bytes.now) }
-{
-    let maxval = number(bytes, at)?;
-    if maxval.value != 255 {
-        return Err(ScanFault {
-            refusal: Refusal::Maxval,
-            place: maxval.first,
-        });
+    // The largest level, which has to be 255.
+    fn maxval(self) -> Result<Numeral, ScanFault>
+        ensures { read_answer (λ n. n) result ≡ maxval_answer self.entry.bytes.now self.entry.at }
+    {
+        let maxval = self.number()?;
+        maxval.ensure(maxval.value == 255, Refusal::Maxval)
     }
-    Ok(maxval)
-}
 
-// The scan whose levels begin at `from`.
-fn levels(bytes: &[u8], width: usize, height: usize, from: usize) -> Result<Scan<'_>, ScanFault>
-    requires within { from ≤ length bytes.now }
-    requires sides { (width ≤ 4096) × (height ≤ 4096) }
-    ensures { told image_of result ≡ levels_answer bytes.now width height from }
-{
-    let count = width * height;
-    if bytes.len() - from < count {
-        return Err(ScanFault {
-            refusal: Refusal::TooFewLevels,
-            place: bytes.len(),
-        });
+    // The scan whose levels begin after the byte here.
+    fn levels(self, width: usize, height: usize) -> Result<Scan<'a>, ScanFault>
+        requires { (width ≤ 4096) × (height ≤ 4096) }
+        ensures { read_answer image_of result ≡ levels_answer self.entry.bytes.now width height (self.entry.at + 1) }
+    {
+        let count = width * height;
+        let rest = self.rest_after();
+        if rest.len() < count {
+            return Err(ScanFault {
+                refusal: Refusal::TooFewLevels,
+                place: self.bytes.len(),
+            });
+        }
+        Ok(Scan {
+            width,
+            height,
+            levels: &rest[..count],
+        })
     }
-    let end = from + count;
-    Ok(Scan {
-        width,
-        height,
-        levels: &bytes[from..end],
-    })
-}
 
-// The scan whose header goes on at `at`, after the magic bytes.
-fn header(bytes: &[u8], at: usize) -> Result<Scan<'_>, ScanFault>
-    requires { at ≤ length bytes.now }
-    ensures { told image_of result ≡ header_answer bytes.now at }
-{
-    let width = side(bytes, at)?;
-    let height = side(bytes, width.after)?;
-    let maxval = maxval(bytes, height.after)?;
-    levels(bytes, width.value, height.value, maxval.after + 1)
+    // The scan whose header goes on here, after the magic bytes.
+    fn header(self) -> Result<Scan<'a>, ScanFault>
+        ensures { read_answer image_of result ≡ header_answer self.entry.bytes.now self.entry.at }
+    {
+        let bytes = self.bytes;
+        let width = self.side()?;
+        let height = Cursor {
+            bytes,
+            at: width.after,
+        }
+        .side()?;
+        let maxval = Cursor {
+            bytes,
+            at: height.after,
+        }
+        .maxval()?;
+        Cursor {
+            bytes,
+            at: maxval.after,
+        }
+        .levels(width.value, height.value)
+    }
 }
 
 // Carries the law of the format to the contract of `read`; no code runs.
@@ -89,7 +88,7 @@ fn format_law()
 
 // Reads a scan, or answers the first fault from the front of the file.
 pub fn read(bytes: &[u8]) -> Result<Scan<'_>, ScanFault>
-    ensures answer { told image_of result ≡ scan_answer bytes.now }
+    ensures answer { read_answer image_of result ≡ scan_answer bytes.now }
     ensures law { ReadsBack }
 {
     format_law();
@@ -99,5 +98,9 @@ pub fn read(bytes: &[u8]) -> Result<Scan<'_>, ScanFault>
             place: 0,
         });
     };
-    header(bytes, bytes.len() - rest.len())
+    let start = Cursor {
+        bytes,
+        at: bytes.len() - rest.len(),
+    };
+    start.header()
 }

@@ -1,0 +1,4 @@
+pub mod Pixels
+pub mod Page
+pub mod Numbers
+pub mod Lines

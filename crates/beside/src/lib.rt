@@ -1,0 +1,16 @@
+// Small sheets of random levels with random edits, and a plain page kept beside each of them.
+#![tactic(auto)]
+
+mod page;
+mod pixels;
+mod random;
+mod size;
+mod trial;
+mod watched;
+
+pub use page::Page;
+pub use pixels::Pixels;
+pub use random::{Levels, Random};
+pub use size::{SIDE, Size};
+pub use trial::{Compared, Tally, trials};
+pub use watched::{ENTRIES, Edited, Watched};
