@@ -3,7 +3,7 @@ use Rattle.beside.proofs.watched.Watched.grow.Given as goal
 
 abbrev pub invariant-loop-y : goal.invariant-loop-y
 invariant-loop-y g l = record {
-  width : l.growing.width ≡ l.initial.growing.width;
-  height : l.growing.height ≡ l.initial.growing.height;
+  width : l.growing.frame.width ≡ l.initial.growing.frame.width;
+  height : l.growing.frame.height ≡ l.initial.growing.frame.height;
   page : l.page.size ≡ l.initial.page.size;
 }
