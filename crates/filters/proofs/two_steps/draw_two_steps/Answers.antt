@@ -2,11 +2,6 @@ use Rattle.std.proofs.Common.{arith}
 use Rattle.filters.proofs.MiddlePage.{no_table, with_table}
 use Rattle.filters.proofs.two_steps.draw_two_steps.Goals as goal
 
-pub returns-then-table-eq0 : goal.returns-then-table-eq0
-returns-then-table-eq0 c =
-    let t = c.args.table.now in
-    no_table c.args.first c.args.second t.frame.width t.frame.height t.entries.now c.args.element.now c.args.between.now c.args.page.now c.draw_step.new.page c.in_ok-n.n (omega arith) c.in_ok-n.ensures (omega arith)
-
 pub returns : goal.returns
 returns c =
     let t = c.args.table.now in

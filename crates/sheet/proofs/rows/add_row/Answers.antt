@@ -3,16 +3,6 @@ use Rattle.sheet.specs.Table.{signed}
 use Rattle.sheet.proofs.Parts.{joined_at, part_long, in_part, above_long, above_part, row_part}
 use Rattle.sheet.proofs.rows.add_row.Goals as goal
 
-pub add-requires : goal.add-requires
-add-requires g c =
-    let k = g.E.Entry in
-    let s = c.args.stride in
-    let y = c.args.y in
-    let e = c.split_at_mut-upper.ensures in
-    let here = part_long k s y _ _ _ e.value e.front_len c.args.left s (omega arith) (omega arith) (omega arith) in
-    let other = above_long k s y _ _ _ e.value e.front_len c.args.base c.args.left (omega arith) (omega arith) in
-    omega arith
-
 pub returns : goal.returns
 returns g c =
     let k = g.E.Entry in
