@@ -1,5 +1,5 @@
 use Rattle.std.proofs.Common.{arith}
-use Rattle.filters.proofs.MiddlePage.{no_table, with_table}
+use Rattle.filters.proofs.MiddlePage.{with_table}
 use Rattle.filters.proofs.two_steps.draw_two_steps.Goals as goal
 
 pub returns : goal.returns

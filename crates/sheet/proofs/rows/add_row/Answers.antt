@@ -1,6 +1,6 @@
 use Rattle.std.proofs.Common.{◌-◌, ap, ◌∙◌, arith}
 use Rattle.sheet.specs.Table.{signed}
-use Rattle.sheet.proofs.Parts.{joined_at, part_long, in_part, above_long, above_part, row_part}
+use Rattle.sheet.proofs.Parts.{joined_at, part_long, in_part, above_part, row_part}
 use Rattle.sheet.proofs.rows.add_row.Goals as goal
 
 pub returns : goal.returns
