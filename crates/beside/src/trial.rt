@@ -1,10 +1,10 @@
 // One sheet after another, each with many edits.
 ghost use Rattle.std.specs.Prelude.{◌≡◌, IfOk, Some};
-ghost use Rattle.beside.specs.Lines.{compared_name, tally_line};
+ghost use Rattle.beside.specs.Lines.{compared_name, kinds_text, tally_line, AllCompare};
 
 use crate::random::Random;
 use crate::watched::{ENTRIES, Edited, Watched};
-use entry::Entry;
+use entry::{Energy, Entry, Ink, Narrow, Pair, Parity, Whole};
 use sheet::Rectangle;
 use std::alloc::{AllocError, Global};
 use std::fmt;
@@ -123,7 +123,7 @@ impl fmt::Display for Tally {
 }
 
 // Many sheets of one kind.
-pub fn trials<E: Entry + PartialEq>(
+fn trials_of<E: Entry + PartialEq>(
     heap: Global,
     random: &mut Random,
     compared: Compared,
@@ -141,4 +141,47 @@ pub fn trials<E: Entry + PartialEq>(
         counts.sheet(memory.as_mut_slice(), random, compared);
     }
     Ok(Tally { compared, counts })
+}
+
+// The counts of many sheets of each kind.
+#[derive(Clone, Copy, Debug)]
+pub struct EachKind {
+    narrow: Tally,
+    whole: Tally,
+    ink: Tally,
+    energy: Tally,
+    parity: Tally,
+    pair: Tally,
+}
+
+impl fmt::Display for EachKind {
+    ghost output = { λ x. Some (kinds_text x) };
+
+    fn fmt<W: fmt::Write>(&self, f: &mut fmt::Formatter<W>) -> fmt::Result {
+        let EachKind {
+            narrow,
+            whole,
+            ink,
+            energy,
+            parity,
+            pair,
+        } = *self;
+        write!(
+            f,
+            "narrow: {narrow}\nwhole: {whole}\nink: {ink}\nenergy: {energy}\nparity: {parity}\npair: {pair}"
+        )
+    }
+}
+
+pub fn trials(heap: Global, random: &mut Random, compared: Compared) -> Result<EachKind, AllocError>
+    ensures { IfOk result (AllCompare compared) }
+{
+    Ok(EachKind {
+        narrow: trials_of::<Narrow>(heap, random, compared)?,
+        whole: trials_of::<Whole>(heap, random, compared)?,
+        ink: trials_of::<Ink>(heap, random, compared)?,
+        energy: trials_of::<Energy>(heap, random, compared)?,
+        parity: trials_of::<Parity>(heap, random, compared)?,
+        pair: trials_of::<Pair<Whole, Energy>>(heap, random, compared)?,
+    })
 }

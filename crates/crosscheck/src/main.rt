@@ -12,18 +12,9 @@ mod shape;
 
 use asked::{Asked, Asker};
 use beside::{Compared, Levels, Random, trials};
-use entry::{Energy, Entry, Ink, Narrow, Pair, Parity, Whole};
+use entry::{Energy, Ink, Narrow, Pair, Whole};
 use std::alloc::AllocGlobal;
 use std::io;
-
-fn print_trials<E: Entry + PartialEq>(
-    rt: &(impl Print + AllocGlobal),
-    name: &str,
-    random: &mut Random,
-) -> io::Result<()> {
-    let tally = trials::<E>(rt.alloc(), random, Compared::Answers)?;
-    println!(rt; "{name}: {tally}")
-}
 
 fn print_score<E: Asked>(
     rt: &(impl Print + AllocGlobal),
@@ -36,12 +27,8 @@ fn print_score<E: Asked>(
 
 fn main(rt: HostRuntime) -> io::Result<()> {
     let mut random = Random::new(Levels::HalfBlank);
-    print_trials::<Narrow>(&rt, "narrow", &mut random)?;
-    print_trials::<Whole>(&rt, "whole", &mut random)?;
-    print_trials::<Ink>(&rt, "ink", &mut random)?;
-    print_trials::<Energy>(&rt, "energy", &mut random)?;
-    print_trials::<Parity>(&rt, "parity", &mut random)?;
-    print_trials::<Pair<Whole, Energy>>(&rt, "pair", &mut random)?;
+    let trials = trials(rt.alloc(), &mut random, Compared::Answers)?;
+    println!(rt; "{trials}")?;
     let mut asker = Asker::new(random);
     print_score::<Narrow>(&rt, "narrow sheets", &mut asker)?;
     print_score::<Whole>(&rt, "whole sheets", &mut asker)?;

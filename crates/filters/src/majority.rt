@@ -18,6 +18,7 @@ use sheet::Table;
 fn majority_of(about: Neighbourhood) -> u8
     ensures { result ≡ majority about.level about.total about.count }
 {
+    // there is no From between these two
     u8::from(about.count < 2 * about.total as usize)
 }
 

@@ -1,4 +1,4 @@
-// Erosion, dilation, opening and closing by a structuring element.
+// Erosion, dilation, opening and closing by a structuring element. Each is a name for one call with its steps.
 ghost use Rattle.std.specs.Prelude.{◌≡◌, length};
 ghost use Rattle.filters.specs.Laws.{FilterLaws};
 ghost use Rattle.filters.specs.Steps.{step_answer, step_byte, StepLaw, TwoStepLaw, TwoSteps};

@@ -18,6 +18,7 @@ impl Step {
         match self {
             Step::Erode => {
                 let cut = cut_at(table, offsets, x, y);
+                // there is no From between these two
                 cut.sum.value() as usize != cut.area
             }
             Step::Dilate => {

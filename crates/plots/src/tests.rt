@@ -59,20 +59,21 @@ fn prints(rt: &(impl Abort + AllocGlobal), file: &[u8], line: &str) -> Result<()
     Ok(())
 }
 
-#[test]
-fn good_files(rt: HostRuntime) -> Result<(), Fail> {
-    for (file, line) in GOOD {
-        prints(&rt, file, line)?;
+fn each_prints(rt: &(impl Abort + AllocGlobal), files: &[(&[u8], &str)]) -> Result<(), Fail> {
+    for (file, line) in files {
+        prints(rt, file, line)?;
     }
     Ok(())
 }
 
 #[test]
+fn good_files(rt: HostRuntime) -> Result<(), Fail> {
+    each_prints(&rt, &GOOD)
+}
+
+#[test]
 fn damaged_files(rt: HostRuntime) -> Result<(), Fail> {
-    for (file, line) in DAMAGED {
-        prints(&rt, file, line)?;
-    }
-    Ok(())
+    each_prints(&rt, &DAMAGED)
 }
 
 // A file of 16,385 bytes whose header, with a long comment, ends at `from`.

@@ -35,6 +35,7 @@ fn hundredfold(level: u32, count: usize) -> u64
     requires { count ≤ 16777216 }
     ensures { result ≡ level * count * 100 }
 {
+    // there is no From between usize and u64
     u64::from(level) * count as u64 * 100
 }
 

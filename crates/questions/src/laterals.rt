@@ -9,7 +9,7 @@ use entry::{Entry, Modular, Tally, WideTally};
 use refusal::Refusal;
 use sheet::{Rectangle, Span, Table};
 
-// The strips that a rectangle is cut into: its rows or its columns.
+// The strips that a rectangle is cut into: its rows or its columns. Data and not a closure, since contracts speak of it.
 #[derive(Clone, Copy)]
 enum Strips {
     Rows,

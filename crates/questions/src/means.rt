@@ -19,6 +19,7 @@ use sheet::{Rectangle, Table};
 fn rounded_mean(total: u32, n: usize) -> u64
     ensures { result ≡ rounded_mean total n }
 {
+    // there is no From between usize and u64
     let count = n as u64;
     (u64::from(total) + count / 2)
         .checked_div(count)

@@ -14,6 +14,7 @@ use sheet::{Rectangle, Table};
 fn spread_of(n: usize, energy: u64, total: u32) -> u64
     ensures { result ≡ spread_of n energy total }
 {
+    // there is no From between usize and u128
     let squares = n as u128 * u128::from(energy);
     let square = u128::from(total) * u128::from(total);
     u64::try_from(squares.saturating_sub(square)).unwrap_or(u64::MAX)

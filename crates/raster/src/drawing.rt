@@ -13,6 +13,7 @@ fn draw_row<F: Fn(u16, u16) -> u8>(value: &F, y: u16, row: &mut [u8])
     ensures { (x : ℕ) → x < length row.old → F.post value.now x y (slice_index row.new x) }
 {
     for (x, byte) in row.iter_mut().enumerate() {
+        // there are 4,096 columns at the most, so no try_from
         *byte = value(x as u16, y);
     }
 }
@@ -22,9 +23,11 @@ fn draw_rows<F: Fn(u16, u16) -> u8>(frame: Frame, value: &F, page: &mut [u8])
     requires room { frame.width * frame.height ≤ length page.old }
     ensures { RowsDrawn (F.post value.now) frame.width frame.height page.old page.new }
 {
+    // by number: after chunks_mut a proof knows nothing of the page (tried)
     for y in 0..frame.height {
         let from = y * frame.width;
         let end = from + frame.width;
+        // a frame has 4,096 rows at the most, so no try_from
         draw_row(value, y as u16, &mut page[from..end]);
     }
 }

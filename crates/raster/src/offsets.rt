@@ -59,6 +59,7 @@ fn opposite(offset: i16) -> i32
     -i32::from(offset)
 }
 
+// Columns and rows have a method each, of one line, since the fields have names of their own.
 impl Offsets {
     // The columns of the rectangle at column `x`.
     pub(crate) fn columns(self, x: u16) -> Span

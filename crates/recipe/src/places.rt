@@ -1,6 +1,6 @@
 ghost use Rattle.std.specs.Prelude.{◌≤◌};
 
-// Sixteen places, the first `placed` of which are taken.
+// Sixteen places, the first `placed` of which are taken: fixed memory, with no heap.
 #[derive(Drop)]
 pub struct Recipe<R> {
     pub(crate) places: [R; 16],

@@ -40,6 +40,7 @@ impl Refusal {
     pub fn number(self) -> u8
         ensures { result ≡ number_of self }
     {
+        // an enum that holds nothing is read as its number
         self as u8
     }
 }

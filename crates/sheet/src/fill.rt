@@ -2,7 +2,7 @@
 ghost use Rattle.std.specs.Prelude.{◌≡◌};
 ghost use Rattle.sheet.specs.Fill.{Reaches, level_at};
 
-// A level for each pixel of a rectangle, row after row, or one level for all of them.
+// A level for each pixel of a rectangle, row after row, or one level for all of them. Data and not a closure, since contracts speak of it.
 #[derive(Clone, Copy)]
 pub(crate) enum Fill<'a> {
     Each(&'a [u8]),

@@ -17,6 +17,7 @@ fn count(edits: &mut u64, laid: &mut u64, n: usize)
     ensures laid { laid.new ≡ capped (laid.old + n) }
 {
     *edits = edits.saturating_add(1);
+    // there is no From between these two
     *laid = laid.saturating_add(n as u64);
 }
 

@@ -1,4 +1,4 @@
-// Which sheets fit into which memory.
+// Which sheets fit into which memory. The public calls take width and height as two numbers, since they have to refuse those that are no frame.
 ghost use Rattle.std.specs.Prelude.{◌≡◌};
 ghost use Rattle.refusal.specs.Answers.{told};
 ghost use Rattle.sheet.specs.Frame.{Fitted};

@@ -1,4 +1,4 @@
-// Rows of entries, and one row of a table.
+// Rows of entries, and one row of a table. The table and its stride are two parameters: as one struct, each of these functions would have to promise that the stride and the memory stay the same.
 ghost use Rattle.std.specs.Prelude.{◌≡◌, ℕ, ◌+◌, ◌-◌, ◌*◌, ◌^◌, ◌<◌, ◌≤◌, length};
 ghost use Rattle.sheet.specs.Fill.{Reaches, level_at};
 ghost use Rattle.sheet.specs.Table.{cell, entry_at, less, signed, prefix_from, Filled, Rewritten};
@@ -8,7 +8,7 @@ use crate::fill::Fill;
 use crate::span::Span;
 use entry::Entry;
 
-// Whether an entry is joined as it is, or as its inverse.
+// Whether an entry is joined as it is, or as its inverse. Data and not a closure, since contracts speak of it.
 #[derive(Clone, Copy)]
 pub(crate) enum Sign {
     Plus,
@@ -43,6 +43,7 @@ fn accumulate<E: Entry>(row: &mut [E], above: &[E], start: E, fill: Fill<'_>, fi
     ensures { (i : ℕ) → i < length row.old → entry_at E.Entry row.new i ≡ E.joined (entry_at E.Entry above.now i) (prefix_from E.Entry start (λ n. E.lifted (level_at fill.entry (first + n))) (i + 1)) }
 {
     let mut sum = start;
+    // by place: after a zip over iter_mut a proof knows nothing of the row (tried)
     for (x, entry) in row.iter_mut().enumerate() {
         sum = sum.join(E::lift(fill.level(first + x)));
         *entry = above[x].join(sum);
@@ -54,6 +55,7 @@ fn add<E: Entry>(row: &mut [E], other: &[E], sign: Sign)
     requires { length row.old ≤ length other.now }
     ensures { (i : ℕ) → i < length row.old → entry_at E.Entry row.new i ≡ E.joined (entry_at E.Entry row.old i) (signed E.Entry sign (entry_at E.Entry other.now i)) }
 {
+    // by place: after a zip over iter_mut a proof knows nothing of the row (tried)
     for (x, entry) in row.iter_mut().enumerate() {
         *entry = entry.join(sign.of(other[x]));
     }

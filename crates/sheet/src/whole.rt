@@ -1,4 +1,4 @@
-// The whole table of a sheet.
+// The whole table of a sheet. The table and its frame are two parameters: as one struct, each of these functions would have to promise that the frame and the memory stay the same.
 ghost use Rattle.std.specs.Prelude.{◌≡◌, ℕ, ◌+◌, ◌-◌, ◌*◌, ◌<◌, ◌≤◌, true, length};
 ghost use Rattle.sheet.specs.Fill.{Reaches, level_at};
 ghost use Rattle.sheet.specs.Frame.{HasRoom, all_columns};

@@ -36,6 +36,7 @@ impl Unsigned for u32 {
     }
 
     fn largest() -> usize {
+        // there is no From between these two
         u32::MAX as usize
     }
 

@@ -36,6 +36,7 @@ impl Unsigned for u64 {
     }
 
     fn largest() -> usize {
+        // there is no From between these two
         u64::MAX as usize
     }
 
