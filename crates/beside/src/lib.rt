@@ -12,5 +12,5 @@ pub use page::Page;
 pub use pixels::Pixels;
 pub use random::{Levels, Random};
 pub use size::{SIDE, Size};
-pub use trial::{Compared, Tally, trials};
+pub use trial::{Compared, EachKind, Tally, trials};
 pub use watched::{ENTRIES, Edited, Watched};

@@ -6,6 +6,7 @@ use crate::size::{SIDE, Size};
 use entry::Entry;
 use sheet::Rectangle;
 
+// Fixed memory: 8 by 8 levels, whatever the size.
 #[derive(Clone, Copy, PartialEq, Eq, Debug)]
 pub struct Page {
     pub size: Size,

@@ -5,7 +5,7 @@ ghost use Rattle.beside.specs.Numbers.{number_below, stepped, level_by, stepped_
 use crate::size::{SIDE, Size};
 use sheet::Rectangle;
 
-// Which levels are drawn.
+// Which levels are drawn. Data, since a public function would have to ask of a closure that it may be called.
 #[derive(Clone, Copy, PartialEq, Eq, Debug)]
 pub enum Levels {
     Any,

@@ -1,7 +1,7 @@
 // The size of a small sheet.
 ghost use Rattle.std.specs.Prelude.{◌≡◌, ◌-◌, ◌<◌, ◌≤◌};
 ghost use Rattle.refusal.specs.Answers.{told};
-ghost use Rattle.sheet.specs.Page.{area_answer};
+ghost use Rattle.sheet.specs.Page.{area_answer, on_sheet};
 ghost use Rattle.beside.specs.Pixels.{left_of, rows_of};
 
 use crate::pixels::Pixels;
@@ -34,11 +34,21 @@ impl Size {
         })
     }
 
+    // Whether a rectangle lies on the sheet, written out, so that the sheet's own test is not what it is compared with.
+    fn has(self, rect: Rectangle) -> bool
+        ensures { result ≡ on_sheet self.width self.height rect }
+    {
+        rect.left <= rect.right
+            && rect.top <= rect.bottom
+            && rect.right < self.width
+            && rect.bottom < self.height
+    }
+
     // How many pixels a rectangle has, counted one by one, if it is on the sheet.
     pub fn count(self, rect: Rectangle) -> Result<usize, Refusal>
         ensures { told result ≡ area_answer self.width self.height rect }
     {
-        if !rect.is_on(self.width, self.height) {
+        if !self.has(rect) {
             return Err(Refusal::OffSheet);
         }
         Ok(Pixels::of(rect).count())

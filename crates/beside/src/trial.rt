@@ -13,7 +13,7 @@ const SHEETS: usize = 40;
 
 const EDITS: usize = 100;
 
-// What is compared: the sums of a table and its account alone, or the answers of the edits as well.
+// What is compared: the sums of a table and its account alone, or the answers of the edits as well. Data, since the line that is printed names it.
 #[derive(Clone, Copy, PartialEq, Eq, Debug)]
 pub enum Compared {
     Sums,
@@ -71,7 +71,7 @@ impl Counts {
         }
     }
 
-    // One sheet with many edits, and its account at the end.
+    // One sheet with many edits, and its account at the end. The random numbers go on from sheet to sheet, so they are no part of the counts.
     fn sheet<E: Entry + PartialEq>(
         &mut self,
         memory: &mut [E],

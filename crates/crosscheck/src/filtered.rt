@@ -16,6 +16,7 @@ const ENTRIES: usize = 84;
 // The level of the entries that lie in the memory of a table before it is laid.
 const BLANK: u8 = 9;
 
+// A filter that is drawn at random: data, since its answer is worked out beside it.
 #[derive(Clone, Copy)]
 enum Filter {
     Median(Window),

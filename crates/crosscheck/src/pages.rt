@@ -9,6 +9,7 @@ use raster::{POINT, Window};
 use refusal::Refusal;
 use sheet::Table;
 
+// A question that is drawn at random: data, since its answer is worked out beside it.
 #[derive(Clone, Copy)]
 enum PageQuestion {
     Mean(Window),

@@ -28,60 +28,26 @@ impl Asker {
 // What lies in a list before it is written.
 const BEFORE: u32 = 777;
 
-// A list with `count` totals in front.
-fn listed<F: Fn(usize) -> u32>(count: usize, total: F) -> [u32; SIDE]
-    requires { F.IsAlwaysCallable total }
-{
-    let mut list = [BEFORE; SIDE];
-    for (n, place) in list.iter_mut().enumerate().take(count) {
-        *place = total(n);
-    }
-    list
-}
-
 // How many strips there are from one place to another, both among them.
 fn strips(from: usize, to: usize) -> usize {
     to.saturating_add(1).saturating_sub(from)
 }
 
-// A list with the totals of the first rows of a rectangle.
-fn row_totals<M: Fn(Counted) -> u32>(
+// A list with what `measure` takes from the first strips in front.
+fn strip_totals<S: Fn(usize) -> Rectangle, M: Fn(Counted) -> u32>(
     page: &Page,
-    rect: Rectangle,
     count: usize,
+    strip: S,
     measure: &M,
 ) -> [u32; SIDE]
-    requires { M.IsAlwaysCallable measure.now }
+    requires strips { S.IsAlwaysCallable strip }
+    requires measures { M.IsAlwaysCallable measure.now }
 {
-    listed(count, |n| {
-        let y = rect.top.wrapping_add(n);
-        let row = Rectangle {
-            top: y,
-            bottom: y,
-            ..rect
-        };
-        measure(Counted::of(page, row))
-    })
-}
-
-// A list with the totals of the first columns of a rectangle.
-fn column_totals<M: Fn(Counted) -> u32>(
-    page: &Page,
-    rect: Rectangle,
-    count: usize,
-    measure: &M,
-) -> [u32; SIDE]
-    requires { M.IsAlwaysCallable measure.now }
-{
-    listed(count, |n| {
-        let x = rect.left.wrapping_add(n);
-        let column = Rectangle {
-            left: x,
-            right: x,
-            ..rect
-        };
-        measure(Counted::of(page, column))
-    })
+    let mut list = [BEFORE; SIDE];
+    for (n, total) in list.iter_mut().enumerate().take(count) {
+        *total = measure(Counted::of(page, strip(n)));
+    }
+    list
 }
 
 fn lateral_answer(
@@ -126,11 +92,26 @@ pub(crate) fn ask_laterals<T: WideTally, M: Fn(Counted) -> u32>(
     );
     let wanted = lateral_answer(page.size, rect, rows, columns);
     let most = if wanted.is_ok() { SIDE } else { 0 };
-    let same_rows = drawn_rows == row_totals(page, rect, rows.needed.min(most), &measure);
-    let same_columns = drawn_columns
-        == column_totals(page, rect, columns.needed.min(most), &measure);
+    let row = |n: usize| {
+        let y = rect.top.wrapping_add(n);
+        Rectangle {
+            top: y,
+            bottom: y,
+            ..rect
+        }
+    };
+    let column = |n: usize| {
+        let x = rect.left.wrapping_add(n);
+        Rectangle {
+            left: x,
+            right: x,
+            ..rect
+        }
+    };
+    let row_totals = strip_totals(page, rows.needed.min(most), row, &measure);
+    let column_totals = strip_totals(page, columns.needed.min(most), column, &measure);
     asker.score.note(
         wanted.is_err(),
-        answer == wanted && same_rows && same_columns,
+        answer == wanted && drawn_rows == row_totals && drawn_columns == column_totals,
     );
 }

@@ -29,7 +29,7 @@ impl Amount for Level {
     ghost amount = { λ g. g };
 
     fn amount(level: u8) -> u16 {
-        u16::from(level)
+        level.into()
     }
 
     ghost bounded = { λ g h. omega arith };

@@ -1,4 +1,4 @@
-// The laws of the filters, on contracts; no code runs.
+// The laws of the filters, on contracts; no code runs. A law stands on the contract of each public call that it speaks of.
 ghost use Rattle.filters.specs.Laws.{FilterLaws};
 ghost use Rattle.filters.specs.Steps.{MedianLaw, StepLaw, TwoStepLaw};
 

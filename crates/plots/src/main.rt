@@ -11,7 +11,7 @@ use input::fill;
 use outcome::{PlotError, survey_scan};
 use std::io;
 
-// As much of the input as the program reads.
+// As much of the input as the program reads, into fixed memory.
 const MAX_INPUT: usize = 16_384;
 
 fn main(rt: HostRuntime) -> io::Result<()> {

@@ -9,11 +9,11 @@ ghost use Rattle.raster.specs.Region.{point, window_byte};
 ghost use Rattle.sheet.specs.View.{of_table};
 
 use entry::Whole;
-use raster::{Neighbourhood, POINT, Window, draw_windowed, regions_are_exact, room};
+use raster::{Neighbourhood, POINT, Window, draw_windowed, regions_are_exact, room, sides};
 use refusal::Refusal;
 use sheet::Table;
 
-// What a rule is given on the table of any page; no code runs.
+// What this rule is given on the table of any page; no code runs. Each rule has its law on a contract of its own.
 fn fixed_ink_law()
     ensures { (t : ℕ) → RuleLaw (fixed_ink t) (fixed_ink t) }
 {
@@ -65,7 +65,8 @@ pub fn share_ink(
     ensures law { (p : ℕ) → RuleLaw (share_ink p) (share_ink p) }
 {
     share_ink_law();
-    room(table.frame, page)?;
+    let (width, height) = sides(table.frame);
+    room(width, height, page)?;
     if percent > 100 {
         return Err(Refusal::Share);
     }

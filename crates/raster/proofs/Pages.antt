@@ -68,6 +68,8 @@ module _ (gives : (x y r : ℕ) → Type 0) (f : ℕ → ℕ → ℕ) (is : (x y
       ])
       so.rest
 
-  pub pictured : (frame : Frame) (r : Result ℕ Refusal) (before after : List ℕ) → DrawnBy gives frame r before after → Pictured frame f r before after
-  pictured frame (Ok n) before after so = record { answer = so.answer; effect = rows_laid frame.width frame.height before after (leb-true _ _ (test_passed _ 13 0 _ n (sym so.answer)).0) so.effect }
-  pictured frame (Err e) before after so = record { answer = so.answer; effect = so.effect }
+  pub pictured : (w h : ℕ) (frame : Frame) (r : Result ℕ Refusal) (before after : List ℕ) → w ≡ frame.width → h ≡ frame.height → DrawnBy gives w h r before after → Pictured frame f r before after
+  pictured w h frame (Ok n) before after wide tall so =
+      let room : w * h ≤ length before = leb-true _ _ (test_passed _ 13 0 _ n (sym so.answer)).0 in
+      record { answer = rw (← wide, ← tall) so.answer; effect = rw (← wide, ← tall) (rows_laid w h before after room so.effect) }
+  pictured w h frame (Err e) before after wide tall so = record { answer = rw (← wide, ← tall) so.answer; effect = so.effect }

@@ -33,6 +33,6 @@ pub record RowsDrawn (gives : (x y r : ℕ) → Type 0) (width rows : ℕ) (befo
   pub rest : (i : ℕ) → width * rows ≤ i → slice_index after i ≡ slice_index before i
 
 -- A call that fills a page by calls for its pixels; a refusal changes nothing.
-pub record DrawnBy (gives : (x y r : ℕ) → Type 0) (frame : Frame) (r : Result ℕ Refusal) (before after : List ℕ) : Type 0 where
-  pub answer : told r ≡ room_answer frame.width frame.height (length before)
-  pub effect : MatchResult r (λ n. RowsDrawn gives frame.width frame.height before after) (λ e. after ≡ before)
+pub record DrawnBy (gives : (x y r : ℕ) → Type 0) (width height : ℕ) (r : Result ℕ Refusal) (before after : List ℕ) : Type 0 where
+  pub answer : told r ≡ room_answer width height (length before)
+  pub effect : MatchResult r (λ n. RowsDrawn gives width height before after) (λ e. after ≡ before)

@@ -1,4 +1,4 @@
-// The laws of regions and windows on contracts; no code runs.
+// The laws of regions and windows on contracts; no code runs. A law stands on the contract of each public call that it speaks of.
 ghost use Rattle.raster.specs.Region.{RegionLaw, WindowLaw};
 
 use entry::{Entry, Modular, WideTally};

@@ -10,7 +10,7 @@ mod region;
 mod windowed;
 
 pub use cut::Cut;
-pub use drawing::{draw, room};
+pub use drawing::{draw, room, sides};
 pub use laws::regions_are_exact;
 pub use neighbourhood::Neighbourhood;
 pub use offsets::{Offsets, Window};

@@ -4,7 +4,7 @@ ghost use Rattle.raster.specs.Drawn.{Pictured};
 ghost use Rattle.raster.specs.Region.{cut_area_at, cut_sum_at, point, window_byte, window_offsets, WindowLaw};
 ghost use Rattle.sheet.specs.View.{of_table};
 
-use crate::drawing::draw;
+use crate::drawing::{draw, sides};
 use crate::laws::window_law;
 use crate::neighbourhood::Neighbourhood;
 use crate::offsets::{Offsets, Window};
@@ -55,8 +55,10 @@ pub fn draw_windowed<T: WideTally, F: Fn(Neighbourhood) -> u8>(
     requires gives { (about : Neighbourhood) (r : ℕ) → F.post rule about r → r ≡ shade about.level about.total about.count }
     ensures { Pictured table.now.frame (of_table table.now (window_byte T.Entry T.Modular.own shade) window) result page.old page.new }
 {
+    let (width, height) = sides(table.frame);
     draw(
-        table.frame,
+        width,
+        height,
         |x, y| rule(neighbourhood_at(table, window, x, y)),
         page,
     )

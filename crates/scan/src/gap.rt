@@ -3,7 +3,7 @@ ghost use Rattle.std.specs.Prelude.{◌≡◌, ◌≤◌, length};
 ghost use Rattle.scan.specs.Reading.{white, next_state, gap_length};
 ghost use Rattle.scan.specs.declared.gap.GapState.TheVariants.{Start};
 
-// Where the reader stands in a gap: before its first byte, after a white byte, or in a comment.
+// The states of a small machine. Where the reader stands in a gap: before its first byte, after a white byte, or in a comment.
 #[derive(Clone, Copy)]
 pub(crate) enum GapState {
     Start,
@@ -32,7 +32,7 @@ impl GapState {
     }
 }
 
-// How many bytes of white space and comments come first. A loop, since the state that a byte meets is that of the bytes before it.
+// How many bytes of white space and comments come first. A loop, since a fold would carry the same state and stop as early, and be no plainer.
 pub(crate) fn gap_length(bytes: &[u8]) -> usize
     ensures count { result ≡ gap_length Start bytes.now }
     ensures within { result ≤ length bytes.now }

@@ -9,7 +9,7 @@ use crate::whole::{lay_blank, lay_next, lay_rest};
 use entry::Entry;
 use refusal::Refusal;
 
-// A growing sheet over the lent memory. Where it does not fit, the 0 by 0 sheet, and nothing is written.
+// A growing sheet over the lent memory. Two numbers, since those that are no frame make the 0 by 0 sheet. Where it does not fit, the 0 by 0 sheet, and nothing is written.
 pub fn begin<'a, E: Entry>(memory: &'a mut [E], width: usize, height: usize) -> Growing<'a, E>
     ensures { Begun E.Entry memory.old width height (growing result) }
 {

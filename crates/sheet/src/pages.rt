@@ -7,7 +7,7 @@ use crate::whole::lay_all;
 use entry::Entry;
 use refusal::Refusal;
 
-// Lays a page of `width` by `height` levels into memory, as its table, and answers how many levels it has.
+// Lays a page of `width` by `height` levels into memory, as its table, and answers how many levels it has. Two numbers, since it has to refuse those that are no frame.
 pub fn lay_page<E: Entry>(
     memory: &mut [E],
     width: usize,

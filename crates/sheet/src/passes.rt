@@ -24,7 +24,7 @@ pub(crate) fn add_rows<E: Entry>(
     requires order { (base < top) × (top ≤ bottom) }
     ensures { Added E.Entry stride table.old left top bottom base sign table.new }
 {
-    // by number: each row is written beside another of the same table
+    // by number: each row is written beside another of the same table, and no iterator lends both
     for y in top..bottom {
         add_row(table, stride, left, y, base, sign);
     }
@@ -44,7 +44,7 @@ pub(crate) fn rewrite_rows<E: Entry>(
     ensures { Laid E.Entry frame.width columns rows fill.entry table.old table.new }
 {
     let stride = frame.width + 1;
-    // by number: each row is written beside another of the same table
+    // by number: each row is written beside another of the same table, and no iterator lends both
     for y in rows.start..rows.end {
         let first = (y - rows.start) * (columns.end - columns.start);
         rewrite_row(table, stride, y, columns, fill, first);

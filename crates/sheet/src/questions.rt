@@ -17,7 +17,7 @@ use crate::table::Table;
 use entry::Entry;
 use refusal::Refusal;
 
-// What sums are on the table of any levels, and after any run; no code runs.
+// What sums are on the table of any levels, and after any run; no code runs. A law stands on the contract of each public call that it speaks of.
 fn sum_laws<E: Entry>()
     ensures law { SumLaw E.Entry }
     ensures runs { RunsAgree E.Entry }
@@ -39,7 +39,7 @@ fn pixels(columns: usize, rows: usize) -> usize
 }
 
 impl<'a, E: Entry> Table<'a, E> {
-    // Looks at lent memory as the table of a sheet of this size.
+    // Looks at lent memory as the table of a sheet of this size. Two numbers, since it has to refuse those that are no frame.
     pub fn of(entries: &'a [E], width: usize, height: usize) -> Result<Table<'a, E>, Refusal>
         ensures { Viewed entries.now width height result }
     {

@@ -2,7 +2,7 @@
 ghost use Rattle.std.specs.Prelude.{◌≡◌};
 ghost use Rattle.sheet.specs.Cut.{cut_start, cut_end};
 
-// The numbers from `start` on and below `end`.
+// The numbers from `start` on and below `end`; none where it is turned, so who needs it in order asks for that.
 #[derive(Clone, Copy, PartialEq, Eq, Debug)]
 pub struct Span {
     pub start: usize,

@@ -19,6 +19,7 @@ impl<A: Amount> Tally for Word<u32, A> {
     }
 }
 
+// Each of these owes a fact of its own.
 impl WideTally for Whole {
     ghost spacious = { Prim.search rules };
 }

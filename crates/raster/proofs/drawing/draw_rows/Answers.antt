@@ -5,8 +5,8 @@ use Rattle.raster.proofs.drawing.draw_rows.Goals as goal
 
 pub loop-y-preserved : goal.loop-y-preserved
 loop-y-preserved g c =
-    let w = c.args.frame.width in
-    let h = c.args.frame.height in
+    let w = c.args.width in
+    let h = c.args.height in
     let y = c.loop-y.y in
     let page = c.loop-y.page in
     let n = y * w + w - y * w in
