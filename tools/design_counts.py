@@ -31,6 +31,12 @@ def functions(path, text):
     """Each function: (line, name, parameters, clauses, body)."""
     for m in re.finditer(r"\bfn (\w+)", text):
         depth, i = 0, m.end()
+        if text[i : i + 1] == "<":  # past the type parameters
+            while i < len(text):
+                depth += {"<": 1, ">": -1}.get(text[i], 0) if text[i - 1 : i + 1] != "->" else 0
+                i += 1
+                if depth == 0:
+                    break
         while i < len(text) and text[i] != "(":
             i += 1
         start = i

@@ -1,5 +1,5 @@
 // Erosion, dilation, opening and closing by a structuring element. Each is a name for one call with its steps.
-ghost use Rattle.std.specs.Prelude.{◌≡◌, length};
+ghost use Rattle.std.specs.Prelude.{length};
 ghost use Rattle.filters.specs.Laws.{FilterLaws};
 ghost use Rattle.filters.specs.Steps.{step_answer, step_byte, StepLaw, TwoStepLaw, TwoSteps};
 ghost use Rattle.filters.specs.declared.step.Step.TheVariants.{Erode, Dilate};

@@ -40,7 +40,7 @@ pub fn sides(frame: Frame) -> (u16, u16)
     (frame.width as u16, frame.height as u16)
 }
 
-// How many bytes a page takes, if there is room for them.
+// How many bytes a page takes, if there is room for them. Two numbers, since a page may be larger than any sheet.
 pub fn room(width: u16, height: u16, page: &[u8]) -> Result<usize, Refusal>
     ensures { told result ≡ room_answer width height (length page.now) }
 {

@@ -1,5 +1,5 @@
 // What a rectangle about a pixel has on the sheet.
-ghost use Rattle.std.specs.Prelude.{◌≡◌, ◌≤◌};
+ghost use Rattle.std.specs.Prelude.{◌≡◌};
 ghost use Rattle.raster.specs.Region.{cut_area_at, cut_sum_at, reflected, RegionLaw};
 ghost use Rattle.sheet.specs.Cut.{cut_area, cut_sum};
 ghost use Rattle.sheet.specs.View.{of_table};

@@ -1,5 +1,5 @@
 // Pages whose bytes are fixed by a pixel and the window about it.
-ghost use Rattle.std.specs.Prelude.{◌≡◌, ℕ, ◌≤◌};
+ghost use Rattle.std.specs.Prelude.{◌≡◌, ℕ};
 ghost use Rattle.raster.specs.Drawn.{Pictured};
 ghost use Rattle.raster.specs.Region.{cut_area_at, cut_sum_at, point, window_byte, window_offsets, WindowLaw};
 ghost use Rattle.sheet.specs.View.{of_table};

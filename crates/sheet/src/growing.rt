@@ -1,6 +1,5 @@
 // A sheet while it grows.
-ghost use Rattle.std.specs.Prelude.{◌≡◌, length};
-ghost use Rattle.sheet.specs.Page.{side};
+ghost use Rattle.std.specs.Prelude.{◌≡◌};
 ghost use Rattle.sheet.specs.Sheet.{growing, finished, Begun, Fed, Ended};
 
 use crate::frame::Frame;
@@ -9,7 +8,7 @@ use crate::whole::{lay_blank, lay_next, lay_rest};
 use entry::Entry;
 use refusal::Refusal;
 
-// A growing sheet over the lent memory. Two numbers, since those that are no frame make the 0 by 0 sheet. Where it does not fit, the 0 by 0 sheet, and nothing is written.
+// A growing sheet over the lent memory. Where it does not fit, the 0 by 0 sheet, and nothing is written. Width and height are two numbers, since they may be no frame.
 pub fn begin<'a, E: Entry>(memory: &'a mut [E], width: usize, height: usize) -> Growing<'a, E>
     ensures { Begun E.Entry memory.old width height (growing result) }
 {

@@ -1,5 +1,4 @@
 // Whole pages, laid into lent memory.
-ghost use Rattle.std.specs.Prelude.{◌≡◌};
 ghost use Rattle.sheet.specs.PageTable.{PageLaid};
 
 use crate::frame::Frame;

@@ -1,5 +1,5 @@
 // Rectangles of a sheet.
-ghost use Rattle.std.specs.Prelude.{◌≡◌, ◌<◌, ◌≤◌, true, IfOk};
+ghost use Rattle.std.specs.Prelude.{◌≡◌, ◌<◌, true, IfOk};
 ghost use Rattle.refusal.specs.Answers.{told};
 ghost use Rattle.sheet.specs.Page.{area, area_answer, on_sheet};
 
