@@ -79,7 +79,7 @@ impl Counts {
         compared: Compared,
     ) {
         let mut watched = Watched::grow(memory, random);
-        // the account of the sheet, kept beside it
+        // the account of the sheet, kept beside it: of the edits that are laid, which no iterator counts
         let mut edits: u64 = 0;
         let mut laid: u64 = 0;
         for _ in 0..EDITS {

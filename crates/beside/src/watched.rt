@@ -1,4 +1,4 @@
-// A sheet, and the page that it is to show.
+// A sheet, and the page that it is to show. What is drawn at random is not promised; that a refused edit leaves the page is, by each.
 ghost use Rattle.std.specs.Prelude.{◌≡◌, ◌≤◌, length, OnErr};
 ghost use Rattle.sheet.specs.Sheet.{finished, filed};
 

@@ -7,7 +7,7 @@ use recipe::{Element, Placed};
 
 const MOST: usize = 3;
 
-// The rectangles of an element, three at the most, kept beside it.
+// The rectangles of an element, three at the most, kept beside it in fixed memory.
 #[derive(Clone, Copy)]
 pub(crate) struct Shape {
     rectangles: [Option<Offsets>; MOST],

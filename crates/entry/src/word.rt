@@ -32,7 +32,7 @@ impl<U: Unsigned, R> Word<U, R> {
     }
 }
 
-// By hand, since no derive copies a ghost field that reads a member of `U`.
+// By hand, since no derive copies a ghost field that reads a member of `U` (tried).
 impl<U: Unsigned, R> Copy for Word<U, R> {}
 
 impl<U: Unsigned, R> Clone for Word<U, R> {

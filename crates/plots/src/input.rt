@@ -8,6 +8,7 @@ use std::io::Read;
 pub(crate) fn fill<R: Read>(input: &mut R, buffer: &mut [u8]) -> io::Result<usize>
     ensures { IfOk result (λ n. n ≤ length buffer.old) }
 {
+    // a place, since each read goes on where the one before it ended
     let mut filled = 0;
     // each turn but the last reads a byte at least
     for _ in 0..buffer.len() {

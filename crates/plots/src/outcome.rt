@@ -68,7 +68,7 @@ impl From<AllocError> for PlotError {
     }
 }
 
-// Entries for the table of a sheet of these two sides, which are no frame before memory is there.
+// Entries for the table of a sheet of these two sides. Two numbers, as its only caller has them and needs them next.
 fn table_memory(heap: Global, width: usize, height: usize) -> Result<Vec<Whole>, AllocError>
     requires { (width ≤ 4096) × (height ≤ 4096) }
     ensures { IfOk result (λ v. vec_len v ≡ (width + 1) * (height + 1)) }

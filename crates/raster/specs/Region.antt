@@ -1,5 +1,5 @@
 -- Rectangles about a pixel, cut at the frame of a sheet. Assumes nothing.
-use Rattle.std.specs.Prelude.{◌≡◌, ℕ, ◌+◌, ◌<◌, ◌≤◌, Bool, cond, ◌&&◌, List, ℤ, pos, negsuc, ◌+ℤ◌, neg_ℤ, int_le}
+use Rattle.std.specs.Prelude.{◌≡◌, ℕ, ◌+◌, ◌<◌, ◌≤◌, Bool, cond, ◌&&◌, List, ℤ, pos, negsuc, ◌+ℤ◌, neg_ℤ, ◌≤ℤ◌, int_le}
 use Rattle.entry.specs.declared.kind.entry.Entry.{Ghosts}
 use Rattle.entry.specs.declared.kind.modular.Modular as modular
 use Rattle.sheet.specs.declared.span.Span.{Span}
@@ -24,6 +24,10 @@ window_offsets w = record { left = neg_ℤ (pos w.left); right = pos w.right; up
 -- The offsets turned about the pixel: (i, j) is a pixel of the rectangle at (x, y) where (x, y) is one of the reflected rectangle at (i, j).
 abbrev pub reflected : Offsets → Offsets
 reflected o = record { left = neg_ℤ o.right; right = neg_ℤ o.left; up = neg_ℤ o.down; down = neg_ℤ o.up }
+
+-- no offset is further off than that
+abbrev pub Near : ℤ → Type 0
+Near z = (negsuc 65535 ≤ℤ z) × (z ≤ℤ pos 65536)
 
 -- the first number that is z or more, and the first above z
 abbrev pub first_from : ℤ → ℕ

@@ -1,4 +1,4 @@
-// Pages of bytes, drawn pixel by pixel.
+// Pages of bytes, drawn pixel by pixel. Width and height are two numbers of 16 bits, since a page may be larger than any sheet; so a cast to 16 bits loses nothing.
 ghost use Rattle.std.specs.Prelude.{◌≡◌, ℕ, ◌*◌, ◌^◌, ◌<◌, ◌≤◌, length, slice_index};
 ghost use Rattle.raster.specs.Drawn.{room_answer, DrawnBy, RowsDrawn};
 ghost use Rattle.refusal.specs.Answers.{told};
@@ -40,7 +40,7 @@ pub fn sides(frame: Frame) -> (u16, u16)
     (frame.width as u16, frame.height as u16)
 }
 
-// How many bytes a page takes, if there is room for them. Two numbers, since a page may be larger than any sheet.
+// How many bytes a page takes, if there is room for them.
 pub fn room(width: u16, height: u16, page: &[u8]) -> Result<usize, Refusal>
     ensures { told result ≡ room_answer width height (length page.now) }
 {

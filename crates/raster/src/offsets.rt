@@ -1,6 +1,6 @@
 // Rectangles about a pixel.
 ghost use Rattle.std.specs.Prelude.{◌≡◌, pos, negsuc, ◌+ℤ◌, neg_ℤ, ◌≤ℤ◌};
-ghost use Rattle.raster.specs.Region.{columns_at, first_above, first_from, reflected, rows_at, span_at, window_offsets};
+ghost use Rattle.raster.specs.Region.{Near, columns_at, first_above, first_from, reflected, rows_at, span_at, window_offsets};
 
 use sheet::Span;
 
@@ -24,7 +24,7 @@ pub struct Window {
 
 // The first number that is x + from or more.
 fn first_from(from: i32, x: u16) -> usize
-    requires { (negsuc 65535 ≤ℤ from) × (from ≤ℤ pos 65536) }
+    requires { Near from }
     ensures { result ≡ first_from (pos x +ℤ from) }
 {
     usize::try_from(i32::from(x) + from).unwrap_or(0)
@@ -32,7 +32,7 @@ fn first_from(from: i32, x: u16) -> usize
 
 // The first number above x + to.
 fn first_above(to: i32, x: u16) -> usize
-    requires { (negsuc 65535 ≤ℤ to) × (to ≤ℤ pos 65536) }
+    requires { Near to }
     ensures { result ≡ first_above (pos x +ℤ to) }
 {
     usize::try_from(i32::from(x) + to).map_or(0, |n| n + 1)
@@ -40,8 +40,8 @@ fn first_above(to: i32, x: u16) -> usize
 
 // The numbers from x + from to x + to.
 fn span(from: i32, to: i32, x: u16) -> Span
-    requires from { (negsuc 65535 ≤ℤ from) × (from ≤ℤ pos 65536) }
-    requires to { (negsuc 65535 ≤ℤ to) × (to ≤ℤ pos 65536) }
+    requires from { Near from }
+    requires to { Near to }
     ensures { result ≡ span_at from to x }
 {
     Span {

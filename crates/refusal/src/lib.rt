@@ -45,7 +45,7 @@ impl Refusal {
     }
 }
 
-// The part of the program that met the refusal.
+// The part of the program that met the refusal. Data, since the line that is printed names it.
 #[derive(Clone, Copy, PartialEq, Eq, Debug)]
 pub enum Layer {
     Reader,

@@ -36,7 +36,7 @@ pub(crate) fn leading_digits(bytes: &[u8]) -> &[u8]
     &bytes[..digit_count(bytes)]
 }
 
-// A loop, since in a `fold` the proof does not know that the numbers fit.
+// A loop, since in a `fold` the proof does not know that the numbers fit (tried).
 pub(crate) fn value_of(digits: &[u8]) -> usize
     requires { length digits.now ≤ 5 }
     ensures { result ≡ value digits.now }

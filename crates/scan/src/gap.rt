@@ -3,7 +3,7 @@ ghost use Rattle.std.specs.Prelude.{◌≡◌, ◌≤◌, length};
 ghost use Rattle.scan.specs.Reading.{white, next_state, gap_length};
 ghost use Rattle.scan.specs.declared.gap.GapState.TheVariants.{Start};
 
-// The states of a small machine. Where the reader stands in a gap: before its first byte, after a white byte, or in a comment.
+// Where the reader stands in a gap, as data that the contract speaks of: before its first byte, after a white byte, or in a comment.
 #[derive(Clone, Copy)]
 pub(crate) enum GapState {
     Start,

@@ -37,7 +37,7 @@ impl<'a> Cursor<'a> {
         maxval.ensure(maxval.value == 255, Refusal::Maxval)
     }
 
-    // The scan whose levels begin after the byte here. Its sides are the two numbers that were read.
+    // The scan whose levels begin after the byte here. Two numbers: this crate knows no frame.
     fn levels(self, width: usize, height: usize) -> Result<Scan<'a>, ScanFault>
         requires { (width ≤ 4096) × (height ≤ 4096) }
         ensures { read_answer image_of result ≡ levels_answer self.entry.bytes.now width height (self.entry.at + 1) }

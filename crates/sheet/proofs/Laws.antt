@@ -1,4 +1,4 @@
--- The laws of a kind as its `impl` owes them, put together. Assumes nothing.
+-- The laws of a kind as its `impl` owes them, put together; as one law of the trait, lemmas over a group would no longer find its kind (tried). Assumes nothing.
 use Rattle.std.proofs.Common.{◌≡◌}
 use Rattle.entry.specs.Group.{Group}
 use Rattle.entry.specs.declared.kind.entry.Entry.{Ghosts}

@@ -1,4 +1,4 @@
-// One entry of a table, by its column and row.
+// One entry of a table, by its column and row. The list and its stride are two parameters, since those who change the list read it too.
 ghost use Rattle.std.specs.Prelude.{◌≡◌, ◌+◌, ◌*◌, ◌<◌, length};
 ghost use Rattle.sheet.specs.Table.{cell};
 

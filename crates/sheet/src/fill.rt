@@ -2,7 +2,7 @@
 ghost use Rattle.std.specs.Prelude.{◌≡◌};
 ghost use Rattle.sheet.specs.Fill.{Reaches, level_at};
 
-// A level for each pixel of a rectangle, row after row, or one level for all of them. Data and not a closure, since contracts speak of it. Where a part of it is laid, the number of the first level stands beside it, so that the levels keep their numbers.
+// A level for each pixel of a rectangle, row after row, or one level for all of them. Data and not a closure, since contracts speak of it. Where a part of it is laid, the number of its first level stands beside it: cut to that part, each contract would have to say how its numbers are those of the whole.
 #[derive(Clone, Copy)]
 pub(crate) enum Fill<'a> {
     Each(&'a [u8]),

@@ -1,4 +1,4 @@
-// A finished sheet: edits and filing.
+// A finished sheet: edits and filing. Each call promises that the memory is the one that was lent.
 ghost use Rattle.std.specs.Prelude.{◌≡◌, ℕ, ◌+◌, ◌<◌, true};
 ghost use Rattle.sheet.specs.Fill.{Reaches, level_at};
 ghost use Rattle.sheet.specs.Page.{area, capped, on_sheet};

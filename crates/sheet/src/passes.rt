@@ -1,4 +1,4 @@
-// Many rows of a table.
+// Many rows of a table. The table and its size are two parameters, as in the rows; that columns are within it is asked by each for its own.
 ghost use Rattle.std.specs.Prelude.{ℕ, ◌+◌, ◌-◌, ◌*◌, ◌<◌, ◌≤◌, length};
 ghost use Rattle.sheet.specs.Fill.{Reaches};
 ghost use Rattle.sheet.specs.Sheet.{Laid, OnTable};

@@ -16,7 +16,7 @@ pub struct Rectangle {
 }
 
 impl Rectangle {
-    // Whether it lies on a sheet of that size, and is not turned. Two numbers, since the sizes of others are no frames.
+    // Whether it lies on a sheet of that size, and is not turned. Two numbers, as its definition takes them.
     pub fn is_on(self, width: usize, height: usize) -> bool
         ensures { result ≡ on_sheet width height self }
     {
