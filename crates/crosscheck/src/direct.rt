@@ -1,4 +1,5 @@
 // What pixels have together, counted one by one on the page.
+use crate::shape::is_between;
 use beside::{Page, Pixels};
 use raster::Window;
 use sheet::Rectangle;
@@ -44,7 +45,8 @@ impl Counted {
         page.size
             .pixels()
             .filter(|&(i, j)| {
-                is_near(x, i, window.left, window.right) && is_near(y, j, window.up, window.down)
+                is_between(x, -i16::from(window.left), i16::from(window.right), i)
+                    && is_between(y, -i16::from(window.up), i16::from(window.down), j)
             })
             .map(|(i, j)| page.level(i, j))
             .fold(Counted::none(), |counted, level| counted.with(level))
@@ -63,14 +65,5 @@ impl Counted {
         self.pixels
             .wrapping_mul(self.squares)
             .wrapping_sub(levels.wrapping_mul(levels))
-    }
-}
-
-// Whether `i` is at most `before` below `x` and at most `after` above it.
-fn is_near(x: usize, i: usize, before: u8, after: u8) -> bool {
-    if i < x {
-        x - i <= usize::from(before)
-    } else {
-        i - x <= usize::from(after)
     }
 }

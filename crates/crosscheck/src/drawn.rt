@@ -44,9 +44,12 @@ pub(crate) fn page_of<F: Fn(usize, usize) -> u8>(size: Size, level: F) -> Page
     page
 }
 
-// Memory with the levels of a page in front.
-pub(crate) fn bytes_of(page: &Page) -> [u8; ROOM] {
+// Memory with the levels of a page in front, or as it was before where no page is drawn.
+pub(crate) fn bytes_of(drawn: Option<Page>) -> [u8; ROOM] {
     let mut bytes = [BEFORE; ROOM];
+    let Some(page) = drawn else {
+        return bytes;
+    };
     for (byte, (x, y)) in bytes.iter_mut().zip(page.size.pixels()) {
         *byte = page.level(x, y);
     }

@@ -136,12 +136,12 @@ pub(crate) fn ask_filter(watched: &Watched<'_, Ink>, asker: &mut Asker) {
     );
     let wanted = filter.answer(bytes, entries, &shape);
     let middle = filter.between(&ink_of(page), &shape);
-    let after = if wanted.is_ok() {
-        bytes_of(&filter.after(page, &middle, &shape))
-    } else {
-        [BEFORE; ROOM]
-    };
+    let after = wanted
+        .is_ok()
+        .then_some(filter.after(page, &middle, &shape));
     let laid = (filter.has_two_steps() && wanted.is_ok()).then_some(middle);
-    let same = answer == wanted && drawn == after && between_holds(&between, laid, entries.needed);
+    let same = answer == wanted
+        && drawn == bytes_of(after)
+        && between_holds(&between, laid, entries.needed);
     asker.score.note(wanted.is_err(), same);
 }

@@ -88,12 +88,11 @@ pub(crate) fn ask_page(watched: &Watched<'_, Whole>, asker: &mut Asker) {
     let mut drawn = [BEFORE; ROOM];
     let answer = question.ask(&watched.sheet.table(), &mut drawn[..room.given]);
     let wanted = question.answer(room);
-    let bytes = if wanted.is_ok() {
-        bytes_of(&page_of(page.size, |x, y| question.byte(page, x, y)))
-    } else {
-        [BEFORE; ROOM]
-    };
-    asker
-        .score
-        .note(wanted.is_err(), answer == wanted && drawn == bytes);
+    let after = wanted
+        .is_ok()
+        .then(|| page_of(page.size, |x, y| question.byte(page, x, y)));
+    asker.score.note(
+        wanted.is_err(),
+        answer == wanted && drawn == bytes_of(after),
+    );
 }

@@ -1,4 +1,4 @@
-// How many questions were asked, and how they were answered. The counts wrap rather than ask for a bound; no run comes near it.
+// How many questions were asked, and how they were answered. The counts wrap rather than ask for a bound; no run comes near it. The trials of edits count two things more and print them in words of their own, so one type for both would be no plainer.
 use refusal::Refusal;
 use std::fmt;
 

@@ -34,7 +34,7 @@ fn signed(n: usize) -> i32 {
 }
 
 // Whether i lies from x + from to x + to.
-fn is_between(x: usize, from: i16, to: i16, i: usize) -> bool {
+pub(crate) fn is_between(x: usize, from: i16, to: i16, i: usize) -> bool {
     let far = signed(i).wrapping_sub(signed(x));
     i32::from(from) <= far && far <= i32::from(to)
 }

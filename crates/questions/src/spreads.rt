@@ -20,7 +20,7 @@ fn spread_of(n: usize, energy: u64, total: u32) -> u64
     u64::try_from(squares.saturating_sub(square)).unwrap_or(u64::MAX)
 }
 
-// What sums are on the table of any levels; no code runs.
+// What sums are on the table of any levels; no code runs. The sheet promises it only where `sum` is called, and the law of spreads is shown without a call.
 fn sum_law<E: Entry>()
     ensures { SumLaw E.Entry }
 {}
