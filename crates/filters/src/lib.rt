@@ -6,6 +6,8 @@ mod majority;
 mod morphology;
 mod step;
 mod stepped;
+#[cfg(test)]
+mod tests;
 mod two_steps;
 
 pub use majority::median;

@@ -15,7 +15,7 @@ use Rattle.sheet.proofs.FourCorners.{on_parts}
 use Rattle.questions.specs.Means.{rounded_mean, mean_byte, MeanLaw}
 use Rattle.questions.specs.Totals.{plain_total, TotalLaw}
 use Rattle.questions.specs.Windows.{RuleLaw}
-use Rattle.questions.proofs.Exactness.{on_sheet_bytes}
+use Rattle.questions.proofs.Exactness.{area_within, on_sheet_bytes}
 
 -- the mean of levels up to 255 is at most 255
 mean_small : (total n : ℕ) → 0 < n → total ≤ n * 255 → rounded_mean total n ≤ 255
@@ -50,9 +50,6 @@ area_some w h r on =
     let parts = on_parts w h r on in
     let least : 1 * 1 ≤ area r = mul-le 1 1 (columns r) (lines r) (omega arith) (omega arith) in
     omega arith
-
-pub area_within : (w h : ℕ) → w ≤ 4096 → h ≤ 4096 → (r : Rectangle) → on_sheet w h r ≡ true → area r ≤ 4096 * 4096
-area_within w h hw hh r on = let parts = on_parts w h r on in mul-le (columns r) (lines r) 4096 4096 (omega arith) (omega arith)
 
 pub means : TotalLaw whole whole_numbers → MeanLaw
 means totals = record {

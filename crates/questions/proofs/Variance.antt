@@ -16,8 +16,7 @@ use Rattle.sheet.specs.Page.{Levels, area, columns, on_sheet}
 use Rattle.sheet.specs.Sheet.{Holds, SumLaw, four_corners}
 use Rattle.questions.specs.Spreads.{spread_of, SpreadLaw}
 use Rattle.questions.specs.Totals.{plain_total}
-use Rattle.questions.proofs.Exactness.{on_sheet_bytes}
-use Rattle.questions.proofs.MeanLevels.{area_within}
+use Rattle.questions.proofs.Exactness.{area_within, on_sheet_bytes}
 
 -- twice a product is no more than the two squares
 product_le : (g d : ℕ) → 2 * (g * (g + d)) ≤ g * g + (g + d) * (g + d)
