@@ -8,7 +8,7 @@ mod survey;
 mod tests;
 
 use input::fill;
-use outcome::{PlotError, survey_scan};
+use outcome::outcome_of;
 use std::io;
 
 // As much of the input as the program reads, into fixed memory.
@@ -17,9 +17,6 @@ const MAX_INPUT: usize = 16_384;
 fn main(rt: HostRuntime) -> io::Result<()> {
     let mut buffer = [0; MAX_INPUT];
     let length = fill(&mut rt.stdin(), &mut buffer)?;
-    match survey_scan(rt.alloc(), &buffer[..length]) {
-        Ok(surveyed) => println!(rt; "{surveyed}"),
-        Err(PlotError::Refused(report)) => println!(rt; "{report}"),
-        Err(PlotError::OutOfMemory(error)) => Err(io::Error::from(error)),
-    }
+    let outcome = outcome_of(rt.alloc(), &buffer[..length])?;
+    println!(rt; "{outcome}")
 }

@@ -15,7 +15,7 @@ use std::fmt;
 
 // The sides of a sheet, and the sum of all its levels.
 #[derive(Clone, Copy, Debug)]
-pub(crate) struct Surveyed {
+struct Surveyed {
     width: usize,
     height: usize,
     total: u32,
@@ -32,9 +32,26 @@ impl fmt::Display for Surveyed {
     }
 }
 
+// What comes of a scan file, as it is printed: a sheet, or why the scan is refused.
+#[derive(Clone, Copy, Debug)]
+pub(crate) struct Outcome {
+    answer: Result<Surveyed, Report>,
+}
+
+impl fmt::Display for Outcome {
+    ghost output = { λ x. Some (outcome_text x.answer) };
+
+    fn fmt<W: fmt::Write>(&self, f: &mut fmt::Formatter<W>) -> fmt::Result {
+        match self.answer {
+            Ok(surveyed) => write!(f, "{surveyed}"),
+            Err(report) => write!(f, "{report}"),
+        }
+    }
+}
+
 // Why there is no sheet.
 #[derive(Clone, Copy, Debug)]
-pub(crate) enum PlotError {
+enum PlotError {
     Refused(Report),
     OutOfMemory(AllocError),
 }
@@ -77,7 +94,7 @@ fn table_memory(heap: Global, width: usize, height: usize) -> Result<Vec<Whole>,
 }
 
 // A good scan is filled into a sheet; what the reader refuses comes out as a report.
-pub(crate) fn survey_scan(heap: Global, bytes: &[u8]) -> Result<Surveyed, PlotError>
+fn survey_scan(heap: Global, bytes: &[u8]) -> Result<Surveyed, PlotError>
     ensures surveyed { IfOk result (λ s. outcome_text (Ok s) ≡ printed (scan_answer bytes.now)) }
     ensures refused { (report : Report) → result ≡ Err (Refused report) → outcome_text (Err report) ≡ printed (scan_answer bytes.now) }
 {
@@ -89,4 +106,16 @@ pub(crate) fn survey_scan(heap: Global, bytes: &[u8]) -> Result<Surveyed, PlotEr
         height: scan.height,
         total,
     })
+}
+
+// What is printed of a scan file. Where memory cannot be had nothing is.
+pub(crate) fn outcome_of(heap: Global, bytes: &[u8]) -> Result<Outcome, AllocError>
+    ensures { IfOk result (λ o. outcome_text o.answer ≡ printed (scan_answer bytes.now)) }
+{
+    let answer = match survey_scan(heap, bytes) {
+        Ok(surveyed) => Ok(surveyed),
+        Err(PlotError::Refused(report)) => Err(report),
+        Err(PlotError::OutOfMemory(error)) => return Err(error),
+    };
+    Ok(Outcome { answer })
 }

@@ -3,7 +3,7 @@ ghost use Rattle.std.specs.Prelude.{◌≤◌};
 
 use super::MAX_INPUT;
 use super::input::fill;
-use super::outcome::{PlotError, survey_scan};
+use super::outcome::outcome_of;
 use std::alloc::AllocGlobal;
 use std::process::Abort;
 use std::test::*;
@@ -50,11 +50,8 @@ const DAMAGED: [(&[u8], &str); 24] = [
 ];
 
 fn prints(rt: &(impl Abort + AllocGlobal), file: &[u8], line: &str) -> Result<(), Fail> {
-    let text = match survey_scan(rt.alloc(), file) {
-        Ok(surveyed) => format!(in rt.alloc(); "{surveyed}")?,
-        Err(PlotError::Refused(report)) => format!(in rt.alloc(); "{report}")?,
-        Err(PlotError::OutOfMemory(error)) => return Err(Fail::from(error)),
-    };
+    let outcome = outcome_of(rt.alloc(), file)?;
+    let text = format!(in rt.alloc(); "{outcome}")?;
     assert_eq!(rt; text.as_str(), line);
     Ok(())
 }
