@@ -1,8 +1,10 @@
--- The line that is printed of many sheets. Assumes nothing.
-use Rattle.std.specs.Prelude.{◌≡◌, ℕ, List, ◌∷◌, ◌++◌, codes, decimal}
+-- The line that is printed of many sheets of one kind. Assumes nothing.
+use Rattle.std.specs.Prelude.{ℕ, List, ◌∷◌, ◌++◌, codes, decimal}
+use Rattle.beside.specs.declared.kind.Kind.{Kind}
+use Rattle.beside.specs.declared.kind.Kind.TheVariants.{Narrow, Whole, Ink, Energy, Parity, Pair}
 use Rattle.beside.specs.declared.trial.Compared.{Compared}
 use Rattle.beside.specs.declared.trial.Compared.TheVariants.{Sums, Answers}
-use Rattle.beside.specs.declared.trial.EachKind.{EachKind}
+use Rattle.beside.specs.declared.trial.KindTally.{KindTally}
 use Rattle.beside.specs.declared.trial.Tally.{Tally}
 
 abbrev pub compared_name : Compared → List ℕ
@@ -14,16 +16,13 @@ tally_line t =
     let n = t.counts in
     decimal n.edits ++ (codes " edits, " ++ (decimal n.refused ++ (codes " refused, " ++ (decimal n.comparisons ++ (32 ∷ (compared_name t.compared ++ (codes " compared, " ++ (decimal n.different ++ codes " different"))))))))
 
--- a line for each kind, with no end after the last
-abbrev pub kinds_text : EachKind → List ℕ
-kinds_text x =
-    codes "narrow: " ++ (tally_line x.narrow ++ (10 ∷ (codes "whole: " ++ (tally_line x.whole ++ (10 ∷ (codes "ink: " ++ (tally_line x.ink ++ (10 ∷ (codes "energy: " ++ (tally_line x.energy ++ (10 ∷ (codes "parity: " ++ (tally_line x.parity ++ (10 ∷ (codes "pair: " ++ tally_line x.pair)))))))))))))))
+abbrev pub kind_name : Kind → List ℕ
+kind_name Narrow = codes "narrow"
+kind_name Whole = codes "whole"
+kind_name Ink = codes "ink"
+kind_name Energy = codes "energy"
+kind_name Parity = codes "parity"
+kind_name Pair = codes "pair"
 
--- the counts of every kind say that this was compared
-pub record AllCompare (compared : Compared) (x : EachKind) : Type 0 where
-  pub narrow : x.narrow.compared ≡ compared
-  pub whole : x.whole.compared ≡ compared
-  pub ink : x.ink.compared ≡ compared
-  pub energy : x.energy.compared ≡ compared
-  pub parity : x.parity.compared ≡ compared
-  pub pair : x.pair.compared ≡ compared
+abbrev pub kind_line : KindTally → List ℕ
+kind_line x = kind_name x.kind ++ (codes ": " ++ tally_line x.tally)

@@ -58,10 +58,34 @@ impl Page {
         }
     }
 
+    // Lays one level over a rectangle.
+    pub(crate) fn wipe(&mut self, rect: Rectangle, level: u8) {
+        for (x, y) in Pixels::of(rect) {
+            self.lay(x, y, level);
+        }
+    }
+
+    // Lays levels over a rectangle, row after row.
+    pub(crate) fn patch(&mut self, rect: Rectangle, levels: &[u8]) {
+        for ((x, y), level) in Pixels::of(rect).zip(levels) {
+            self.lay(x, y, *level);
+        }
+    }
+
     // The lifted levels of a rectangle, joined one by one.
     pub(crate) fn joined<E: Entry>(&self, rect: Rectangle) -> E {
-        Pixels::of(rect)
-            .map(|(x, y)| E::lift(self.level(x, y)))
-            .fold(E::zero(), |sum, entry| sum.join(entry))
+        let mut sum = E::zero();
+        for y in rect.top..=rect.bottom {
+            sum = self.join_row(sum, y, rect.left, rect.right);
+        }
+        sum
+    }
+
+    fn join_row<E: Entry>(&self, start: E, y: usize, left: usize, right: usize) -> E {
+        let mut sum = start;
+        for x in left..=right {
+            sum = sum.join(E::lift(self.level(x, y)));
+        }
+        sum
     }
 }

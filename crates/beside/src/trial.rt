@@ -1,10 +1,13 @@
 // One sheet after another, each with many edits.
 ghost use Rattle.std.specs.Prelude.{◌≡◌, IfOk, Some};
-ghost use Rattle.beside.specs.Lines.{compared_name, kinds_text, tally_line, AllCompare};
+ghost use Rattle.beside.specs.Lines.{compared_name, kind_line, tally_line};
 
+use crate::kind::Kind;
 use crate::random::Random;
+use crate::size::SIDE;
 use crate::watched::{ENTRIES, Edited, Watched};
 use entry::{Energy, Entry, Ink, Narrow, Pair, Parity, Whole};
+use refusal::Refusal;
 use sheet::Rectangle;
 use std::alloc::{AllocError, Global};
 use std::fmt;
@@ -31,6 +34,16 @@ impl fmt::Display for Compared {
     }
 }
 
+impl Compared {
+    // What counts as the answer of an edit: where answers are compared, what it is to be; else what the sheet answered, which nothing else looks at then.
+    fn counted(self, edited: Edited) -> Result<usize, Refusal> {
+        match self {
+            Compared::Sums => edited.answer,
+            Compared::Answers => edited.wanted,
+        }
+    }
+}
+
 // What was done, and what was found. The counts wrap rather than ask for a bound; no run comes near it.
 #[derive(Clone, Copy, Debug)]
 struct Counts {
@@ -50,7 +63,7 @@ impl Counts {
 
     fn note_edit(&mut self, edited: Edited, compared: Compared) {
         self.edits = self.edits.wrapping_add(1);
-        if edited.wanted.is_err() {
+        if compared.counted(edited).is_err() {
             self.refused = self.refused.wrapping_add(1);
         }
         if compared == Compared::Answers {
@@ -60,7 +73,14 @@ impl Counts {
 
     // Compares every entry of the table with the levels left of it and above it.
     fn note_sums<E: Entry + PartialEq>(&mut self, watched: &Watched<'_, E>) {
-        for (right, bottom) in watched.page.size.pixels() {
+        // no side is longer than that, and where the compiler sees it, it unrolls the loops over the pixels
+        for bottom in 0..watched.page.size.height.min(SIDE) {
+            self.note_row(watched, bottom);
+        }
+    }
+
+    fn note_row<E: Entry + PartialEq>(&mut self, watched: &Watched<'_, E>, bottom: usize) {
+        for right in 0..watched.page.size.width.min(SIDE) {
             let rect = Rectangle {
                 left: 0,
                 top: 0,
@@ -85,7 +105,7 @@ impl Counts {
         for _ in 0..EDITS {
             let edited = watched.edit(random);
             self.note_edit(edited, compared);
-            if let Ok(n) = edited.wanted {
+            if let Ok(n) = compared.counted(edited) {
                 edits = edits.wrapping_add(1);
                 // there is no From between these two
                 laid = laid.wrapping_add(n as u64);
@@ -122,7 +142,7 @@ impl fmt::Display for Tally {
     }
 }
 
-// Many sheets of one kind.
+// Many sheets of one type of entry.
 fn trials_of<E: Entry + PartialEq>(
     heap: Global,
     random: &mut Random,
@@ -143,45 +163,38 @@ fn trials_of<E: Entry + PartialEq>(
     Ok(Tally { compared, counts })
 }
 
-// The counts of many sheets of each kind.
+// The counts of many sheets of one kind, with its name.
 #[derive(Clone, Copy, Debug)]
-pub struct EachKind {
-    narrow: Tally,
-    whole: Tally,
-    ink: Tally,
-    energy: Tally,
-    parity: Tally,
-    pair: Tally,
+pub struct KindTally {
+    pub kind: Kind,
+    pub tally: Tally,
 }
 
-impl fmt::Display for EachKind {
-    ghost output = { λ x. Some (kinds_text x) };
+impl fmt::Display for KindTally {
+    ghost output = { λ x. Some (kind_line x) };
 
     fn fmt<W: fmt::Write>(&self, f: &mut fmt::Formatter<W>) -> fmt::Result {
-        let EachKind {
-            narrow,
-            whole,
-            ink,
-            energy,
-            parity,
-            pair,
-        } = *self;
-        write!(
-            f,
-            "narrow: {narrow}\nwhole: {whole}\nink: {ink}\nenergy: {energy}\nparity: {parity}\npair: {pair}"
-        )
+        let KindTally { kind, tally } = *self;
+        write!(f, "{kind}: {tally}")
     }
 }
 
-pub fn trials(heap: Global, random: &mut Random, compared: Compared) -> Result<EachKind, AllocError>
-    ensures { IfOk result (AllCompare compared) }
+// Many sheets of one kind. Whoever wants all kinds calls it for each, and has the counts of each as soon as it is done.
+pub fn trials(
+    heap: Global,
+    random: &mut Random,
+    compared: Compared,
+    kind: Kind,
+) -> Result<KindTally, AllocError>
+    ensures { IfOk result (λ t. (t.kind ≡ kind) × (t.tally.compared ≡ compared)) }
 {
-    Ok(EachKind {
-        narrow: trials_of::<Narrow>(heap, random, compared)?,
-        whole: trials_of::<Whole>(heap, random, compared)?,
-        ink: trials_of::<Ink>(heap, random, compared)?,
-        energy: trials_of::<Energy>(heap, random, compared)?,
-        parity: trials_of::<Parity>(heap, random, compared)?,
-        pair: trials_of::<Pair<Whole, Energy>>(heap, random, compared)?,
-    })
+    let tally = match kind {
+        Kind::Narrow => trials_of::<Narrow>(heap, random, compared)?,
+        Kind::Whole => trials_of::<Whole>(heap, random, compared)?,
+        Kind::Ink => trials_of::<Ink>(heap, random, compared)?,
+        Kind::Energy => trials_of::<Energy>(heap, random, compared)?,
+        Kind::Parity => trials_of::<Parity>(heap, random, compared)?,
+        Kind::Pair => trials_of::<Pair<Whole, Energy>>(heap, random, compared)?,
+    };
+    Ok(KindTally { kind, tally })
 }

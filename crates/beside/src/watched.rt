@@ -1,6 +1,6 @@
 // A sheet, and the page that it is to show. What is drawn at random is not promised; that a refused edit leaves the page is, by each.
 ghost use Rattle.std.specs.Prelude.{◌≡◌, ◌≤◌, length, OnErr};
-ghost use Rattle.sheet.specs.Sheet.{finished, filed};
+ghost use Rattle.sheet.specs.Sheet.{finished, filed, Patched, Wiped};
 
 use crate::page::Page;
 use crate::pixels::Pixels;
@@ -61,17 +61,22 @@ impl<'a, E: Entry> Watched<'a, E> {
         let levels: [u8; 64] = random.levels();
         // one in nine has a level too many
         let count = Pixels::of(rect).count() + random.below(9) / 8;
-        self.patch(rect, &levels[..count.min(64)])
+        // a turned rectangle, which has no pixels, comes with as many levels as there are
+        let given = if rect.left > rect.right {
+            64
+        } else {
+            count.min(64)
+        };
+        self.patch(rect, &levels[..given])
     }
 
     fn wipe(&mut self, rect: Rectangle, level: u8) -> Edited
-        ensures { OnErr result.wanted (self.new.page ≡ self.old.page) }
+        ensures page { OnErr result.wanted (self.new.page ≡ self.old.page) }
+        ensures answer { Wiped E.Entry (finished self.old.sheet) rect level result.answer (finished self.new.sheet) }
     {
         let wanted = self.page.size.count(rect);
         if wanted.is_ok() {
-            for (x, y) in Pixels::of(rect) {
-                self.page.lay(x, y, level);
-            }
+            self.page.wipe(rect, level);
         }
         Edited {
             wanted,
@@ -80,16 +85,15 @@ impl<'a, E: Entry> Watched<'a, E> {
     }
 
     fn patch(&mut self, rect: Rectangle, levels: &[u8]) -> Edited
-        ensures { OnErr result.wanted (self.new.page ≡ self.old.page) }
+        ensures page { OnErr result.wanted (self.new.page ≡ self.old.page) }
+        ensures answer { Patched E.Entry (finished self.old.sheet) rect levels.now result.answer (finished self.new.sheet) }
     {
         let wanted = match self.page.size.count(rect) {
             Ok(n) if n != levels.len() => Err(Refusal::PatchLength),
             counted => counted,
         };
         if wanted == Ok(levels.len()) {
-            for ((x, y), level) in Pixels::of(rect).zip(levels) {
-                self.page.lay(x, y, *level);
-            }
+            self.page.patch(rect, levels);
         }
         Edited {
             wanted,

@@ -1,6 +1,6 @@
 // What pixels have together, counted one by one on the page.
 use crate::shape::is_between;
-use beside::{Page, Pixels};
+use beside::Page;
 use raster::Window;
 use sheet::Rectangle;
 
@@ -35,21 +35,27 @@ impl Counted {
 
     // The pixels of a rectangle.
     pub(crate) fn of(page: &Page, rect: Rectangle) -> Counted {
-        Pixels::of(rect)
-            .map(|(x, y)| page.level(x, y))
-            .fold(Counted::none(), |counted, level| counted.with(level))
+        let end = rect.right.saturating_add(1);
+        (rect.top..rect.bottom.saturating_add(1)).fold(Counted::none(), |counted, y| {
+            (rect.left..end).fold(counted, |counted, x| counted.with(page.level(x, y)))
+        })
     }
 
     // The pixels on the page that lie in the window of (x, y).
     pub(crate) fn about(page: &Page, window: Window, x: usize, y: usize) -> Counted {
-        page.size
-            .pixels()
-            .filter(|&(i, j)| {
-                is_between(x, -i16::from(window.left), i16::from(window.right), i)
-                    && is_between(y, -i16::from(window.up), i16::from(window.down), j)
-            })
-            .map(|(i, j)| page.level(i, j))
-            .fold(Counted::none(), |counted, level| counted.with(level))
+        (0..page.size.height)
+            .filter(|&j| is_between(y, -i16::from(window.up), i16::from(window.down), j))
+            .fold(
+                Counted::none(),
+                |counted, j| counted.with_near(page, window, x, j),
+            )
+    }
+
+    // The pixels of row `j` too whose columns lie in the window of column `x`.
+    fn with_near(self, page: &Page, window: Window, x: usize, j: usize) -> Counted {
+        (0..page.size.width)
+            .filter(|&i| is_between(x, -i16::from(window.left), i16::from(window.right), i))
+            .fold(self, |counted, i| counted.with(page.level(i, j)))
     }
 
     // The mean to the nearest whole level, halves upwards.

@@ -11,7 +11,7 @@ mod score;
 mod shape;
 
 use asked::{Asked, Asker};
-use beside::{Compared, Levels, Random, trials};
+use beside::{Compared, Kind, Levels, Random, trials};
 use entry::{Energy, Ink, Narrow, Pair, Whole};
 use std::alloc::AllocGlobal;
 use std::io;
@@ -27,8 +27,11 @@ fn print_score<E: Asked>(
 
 fn main(rt: HostRuntime) -> io::Result<()> {
     let mut random = Random::new(Levels::HalfBlank);
-    let trials = trials(rt.alloc(), &mut random, Compared::Answers)?;
-    println!(rt; "{trials}")?;
+    // each line is written as soon as its kind is done
+    for kind in Kind::ALL {
+        let tally = trials(rt.alloc(), &mut random, Compared::Answers, kind)?;
+        println!(rt; "{tally}")?;
+    }
     let mut asker = Asker::new(random);
     print_score::<Narrow>(&rt, "narrow sheets", &mut asker)?;
     print_score::<Whole>(&rt, "whole sheets", &mut asker)?;

@@ -1,7 +1,7 @@
 // Ink pages and elements, pixel by pixel.
 use crate::direct::Counted;
 use crate::drawn::page_of;
-use beside::{Page, Random};
+use beside::{Page, Random, Size};
 use raster::{Offsets, Window};
 use recipe::{Element, Placed};
 
@@ -29,14 +29,10 @@ fn any_offsets(random: &mut Random) -> Offsets {
     }
 }
 
-fn signed(n: usize) -> i32 {
-    i32::try_from(n).unwrap_or(i32::MAX)
-}
-
 // Whether i lies from x + from to x + to.
 pub(crate) fn is_between(x: usize, from: i16, to: i16, i: usize) -> bool {
-    let far = signed(i).wrapping_sub(signed(x));
-    i32::from(from) <= far && far <= i32::from(to)
+    let far = i.wrapping_sub(x).cast_signed();
+    isize::from(from) <= far && far <= isize::from(to)
 }
 
 impl Shape {
@@ -65,8 +61,10 @@ impl Shape {
 
     // Whether (i, j) is an element pixel of (x, y).
     fn reaches(&self, x: usize, y: usize, i: usize, j: usize) -> bool {
-        self.rectangles.iter().flatten().any(|o| is_between(x, o.left, o.right, i)
-            && is_between(y, o.up, o.down, j))
+        self.rectangles.iter().any(|rectangle| {
+            rectangle.is_some_and(|o| is_between(x, o.left, o.right, i)
+                && is_between(y, o.up, o.down, j))
+        })
     }
 }
 
@@ -77,20 +75,22 @@ pub(crate) fn ink_of(page: &Page) -> Page {
 
 // Ink where every element pixel on the page is ink.
 pub(crate) fn eroded(ink: &Page, shape: &Shape) -> Page {
+    let Size { width, height } = ink.size;
     page_of(ink.size, |x, y| {
-        let all = ink.size.pixels().all(|(i, j)| !shape.reaches(x, y, i, j)
-            || ink.level(i, j) != 0);
+        let all = (0..height).all(|j| {
+            (0..width).all(|i| ink.level(i, j) != 0 || !shape.reaches(x, y, i, j))
+        });
         u8::from(all)
     })
 }
 
 // Ink where some ink pixel has (x, y) among its element pixels.
 pub(crate) fn dilated(ink: &Page, shape: &Shape) -> Page {
+    let Size { width, height } = ink.size;
     page_of(ink.size, |x, y| {
-        let any = ink
-            .size
-            .pixels()
-            .any(|(i, j)| shape.reaches(i, j, x, y) && ink.level(i, j) != 0);
+        let any = (0..height).any(|j| {
+            (0..width).any(|i| ink.level(i, j) != 0 && shape.reaches(i, j, x, y))
+        });
         u8::from(any)
     })
 }
