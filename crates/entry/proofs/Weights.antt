@@ -41,8 +41,11 @@ module _ (w : Width) {W : Type 0} (words : Words (bits w) W) (amount : ℕ → �
       let below = words.fits x in
       copies_word words amount (suc n) (2 ^ bits w - words.value x) ∙ word_mod words _ _ (complements (suc n) (words.value x) (2 ^ bits w) h (omega arith))
 
+  pub taken_product : (z : ℤ) (x : W) → SFits w8 z → taken (sums words amount) z x ≡ word words (words.value x * of_z w z)
+  taken_product z x small = taken_bits z x (le_trans (nat_abs-le z small.sfits) (byte_within w))
+
   -- the code of `times`: r has the bits of the weight z of 8 bits, and y is the word of the product with r
-  pub taken_product : (z : ℤ) (x y : W) (r : ℕ) → SFits w8 z → r ≡ of_z w (to_z w8 (of_z w8 z)) → y ≡ word words (words.value x * r) → y ≡ taken (sums words amount) z x
-  taken_product z x y r small weight product =
+  pub scaled : (z : ℤ) (x y : W) (r : ℕ) → SFits w8 z → r ≡ of_z w (to_z w8 (of_z w8 z)) → y ≡ word words (words.value x * r) → y ≡ taken (sums words amount) z x
+  scaled z x y r small weight product =
       let wide : r ≡ of_z w z = weight ∙ ap (of_z w) (to_z-of_z w8 z small) in
-      product ∙ ap (λ (n : ℕ). word words (words.value x * n)) wide ∙ sym (taken_bits z x (le_trans (nat_abs-le z small.sfits) (byte_within w)))
+      product ∙ ap (λ (n : ℕ). word words (words.value x * n)) wide ∙ sym (taken_product z x small)

@@ -1,4 +1,5 @@
 // The kinds, and what each does with its words.
+mod debug;
 pub mod energy;
 pub mod pair;
 pub mod parity;

@@ -6,6 +6,7 @@ use crate::kinds::pair::Pair;
 use crate::kinds::{Energy, Ink, Narrow, Parity, Whole};
 use std::fmt::Debug;
 use std::process::Abort;
+use std::test::Fail;
 
 fn inverse_of_zero<E: Entry + PartialEq + Debug>(rt: &impl Abort) {
     assert_eq!(rt; E::zero().inverse(), E::zero());
@@ -54,6 +55,21 @@ fn levels(rt: HostRuntime) {
     let both: Pair<Whole, Energy> = Pair::lift(12);
     assert_eq!(rt; both.first.value(), 12);
     assert_eq!(rt; both.second.value(), 144);
+}
+
+#[test]
+fn debugged(rt: HostRuntime) -> Result<(), Fail> {
+    let narrow = Narrow::lift(5);
+    let whole = Whole::lift(5);
+    let ink = Ink::lift(5);
+    let energy = Energy::lift(5);
+    let parity = Parity::lift(5);
+    let text = format!(in rt.alloc(); "{narrow:?} {whole:?} {ink:?} {energy:?} {parity:?}")?;
+    assert_eq!(rt;
+        text.as_str(),
+        "Narrow { value: 5 } Whole { value: 5 } Ink { tally: Whole { value: 1 } } Energy { value: 25 } Parity { value: 2 }"
+    );
+    Ok(())
 }
 
 #[test]

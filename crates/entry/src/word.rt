@@ -7,7 +7,7 @@ use std::alloc::AllocError;
 use std::marker::PhantomData;
 
 // A word of the machine; `R` is the rule for what a level does to it.
-#[derive_where(PartialEq, Eq, Debug; U)]
+#[derive_where(PartialEq, Eq; U)]
 pub struct Word<U: Unsigned, R> {
     pub(crate) value: U,
     #[derive_where(skip)]

@@ -56,7 +56,7 @@ row_more gives w y n old page row same long room is so =
 
 -- bytes that are fixed by their pixels are those of a picture
 module _ (gives : (x y r : ℕ) → Type 0) (f : ℕ → ℕ → ℕ) (is : (x y r : ℕ) → gives x y r → r ≡ f x y) where
-  rows_laid : (w h : ℕ) (before after : List ℕ) → w * h ≤ length before → RowsDrawn gives w h before after → after ≡ laid (page_byte w f) (w * h) before
+  pub rows_laid : (w h : ℕ) (before after : List ℕ) → w * h ≤ length before → RowsDrawn gives w h before after → after ≡ laid (page_byte w f) (w * h) before
   rows_laid w h before after room so = laid_front (page_byte w f) (w * h) before after room so.long
       (λ i lt. elim (cases_lt 0 w) [
         | inl some ↦

@@ -27,7 +27,8 @@ fn first_from(from: i32, x: u16) -> usize
     requires { Near from }
     ensures { result ≡ first_from (pos x +ℤ from) }
 {
-    usize::try_from(i32::from(x) + from).unwrap_or(0)
+    // not below 0, so the cast loses nothing; a try_from would be more to do for each rectangle at each pixel
+    (i32::from(x) + from).max(0) as usize
 }
 
 // The first number above x + to.
@@ -35,7 +36,8 @@ fn first_above(to: i32, x: u16) -> usize
     requires { Near to }
     ensures { result ≡ first_above (pos x +ℤ to) }
 {
-    usize::try_from(i32::from(x) + to).map_or(0, |n| n + 1)
+    // not below 0, as above
+    (i32::from(x) + to + 1).max(0) as usize
 }
 
 // The numbers from x + from to x + to.

@@ -24,7 +24,8 @@ pub(crate) fn lay_blank<E: Entry>(table: &mut [E], frame: Frame)
     clear(&mut table[0..entries]);
 }
 
-// Lays the levels, row after row, into these page rows.
+// Lays the levels, row after row, into these page rows. Inlined as `rewrite_rows` is.
+#[inline(always)]
 fn lay_rows<E: Entry>(table: &mut [E], frame: Frame, rows: Span, fill: Fill<'_>)
     requires room { HasRoom frame (length table.old) }
     requires order { (rows.start ≤ rows.end) × (rows.end ≤ frame.height) }
