@@ -61,8 +61,8 @@ impl<'a, E: Entry> Watched<'a, E> {
         let levels: [u8; 64] = random.levels();
         // one in nine has a level too many
         let count = Pixels::of(rect).count() + random.below(9) / 8;
-        // a turned rectangle, which has no pixels, comes with as many levels as there are
-        let given = if rect.left > rect.right {
+        // one that is turned by two columns or more, and has no pixels, comes with as many levels as there are
+        let given = if rect.left > rect.right + 1 {
             64
         } else {
             count.min(64)

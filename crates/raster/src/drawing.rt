@@ -12,9 +12,9 @@ fn draw_row<F: Fn(u16, u16) -> u8>(value: &F, y: u16, row: &mut [u8])
     requires few { length row.old < 2 ^ 16 }
     ensures { (x : ℕ) → x < length row.old → F.post value.now x y (slice_index row.new x) }
 {
-    for (x, byte) in row.iter_mut().enumerate() {
-        // there are fewer than 2 ^ 16 columns, so no try_from
-        *byte = value(x as u16, y);
+    // by number: beside an enumerate the compiler keeps the column a second time, which each pixel of a filter pays for; there are fewer than 2 ^ 16 columns, so no try_from
+    for x in 0..row.len() as u16 {
+        row[usize::from(x)] = value(x, y);
     }
 }
 

@@ -53,6 +53,17 @@ module _ {E : Type 0} (k : Ghosts E) (s y left right : ℕ) (t0 t1 t2 : List E) 
 
 -- rows, one more each time
 module _ {E : Type 0} (k : Ghosts E) (s : ℕ) (before : List E) where
+  -- rows of the same levels
+  pub rewritten_same : (left right top bottom : ℕ) (f g : ℕ → ℕ → E) (after : List E) → ((n j : ℕ) → top ≤ j → j < bottom → f (left + n) j ≡ g (left + n) j) →
+      Rewritten k s before left right top bottom f after → Rewritten k s before left right top bottom g after
+  rewritten_same left right top bottom f g after same so = record {
+    long = so.long;
+    inside = λ i j hi lo up low high. so.inside i j hi lo up low high
+        ∙ ap (k.joined (cell k s after i j)) (from_same k (less k (cell k s before left (j + 1)) (cell k s before left j)) (λ n. f (left + n) j) (λ n. g (left + n) j) (i - left) (λ n hn. same n j low high));
+    beyond = so.beyond;
+    others = so.others;
+  }
+
   -- one row joined to each of several
   pub added_none : (left top base : ℕ) (sign : Sign) → Added k s before left top top base sign before
   added_none left top base sign = record { long = refl; rows = λ i j hi far low high. absurd (omega arith); others = λ i j hi out. refl }

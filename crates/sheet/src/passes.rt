@@ -30,8 +30,7 @@ pub(crate) fn add_rows<E: Entry>(
     }
 }
 
-// Lays levels, row after row, into these columns and page rows, and shifts what stands right of them. Inlined, so that each caller has the loop of its own kind of fill: a fed row is short, and a call of the loop for all of them would take longer than the row.
-#[inline(always)]
+// Lays levels, row after row, into these columns and page rows, and shifts what stands right of them.
 pub(crate) fn rewrite_rows<E: Entry>(
     table: &mut [E],
     frame: Frame,

@@ -131,7 +131,8 @@ fn rewrite_columns<E: Entry>(
     );
 }
 
-// Lays the levels from number `first` on into these columns of page row `y`, and shifts what stands right of them.
+// Lays the levels from number `first` on into these columns of page row `y`, and shifts what stands right of them. Inlined, so that a fed row, which may be short, has a loop for its own kind of fill.
+#[inline(always)]
 pub(crate) fn rewrite_row<E: Entry>(
     table: &mut [E],
     stride: usize,

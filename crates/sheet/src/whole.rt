@@ -10,7 +10,7 @@ use crate::fill::Fill;
 use crate::frame::Frame;
 use crate::passes::{add_rows, rewrite_rows};
 use crate::rectangle::Rectangle;
-use crate::rows::{Sign, clear};
+use crate::rows::{Sign, clear, rewrite_row};
 use crate::span::Span;
 use entry::Entry;
 
@@ -24,8 +24,7 @@ pub(crate) fn lay_blank<E: Entry>(table: &mut [E], frame: Frame)
     clear(&mut table[0..entries]);
 }
 
-// Lays the levels, row after row, into these page rows. Inlined as `rewrite_rows` is.
-#[inline(always)]
+// Lays the levels, row after row, into these page rows.
 fn lay_rows<E: Entry>(table: &mut [E], frame: Frame, rows: Span, fill: Fill<'_>)
     requires room { HasRoom frame (length table.old) }
     requires order { (rows.start ≤ rows.end) × (rows.end ≤ frame.height) }
@@ -46,11 +45,12 @@ pub(crate) fn lay_next<E: Entry>(table: &mut [E], frame: Frame, y: usize, row: &
     requires within { y < frame.height }
     ensures { Renewed E.Entry frame.width frame.height y (y + 1) (with_row y row.now) table.old table.new }
 {
-    let rows = Span {
-        start: y,
-        end: y + 1,
+    let width = frame.width;
+    let columns = Span {
+        start: 0,
+        end: width,
     };
-    lay_rows(table, frame, rows, Fill::Each(row));
+    rewrite_row(table, width + 1, y, columns, Fill::Each(row), 0);
 }
 
 // Lays one level over the page rows from `y` on.
