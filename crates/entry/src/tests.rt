@@ -1,9 +1,14 @@
 // Examples of each kind.
+ghost use Rattle.std.specs.Prelude.{min};
+ghost use Rattle.std.proofs.Common.{arith};
+
+use crate::amount::{Amount, Level, Pixel, Square};
 use crate::kind::entry::Entry;
 use crate::kind::tally::Tally;
 use crate::kind::weighable::Weighable;
 use crate::kinds::pair::Pair;
 use crate::kinds::{Energy, Ink, Narrow, Parity, Whole};
+use crate::word::Word;
 use std::fmt::Debug;
 use std::process::Abort;
 use std::test::Fail;
@@ -68,6 +73,55 @@ fn debugged(rt: HostRuntime) -> Result<(), Fail> {
     assert_eq!(rt;
         text.as_str(),
         "Narrow { value: 5 } Whole { value: 5 } Ink { tally: Whole { value: 1 } } Energy { value: 25 } Parity { value: 2 }"
+    );
+    Ok(())
+}
+
+// Every level counts as it does in a whole tally, but for the last, as no rule of this crate has it.
+struct Capped;
+
+impl Amount for Capped {
+    ghost amount = { λ g. min g 254 };
+
+    fn amount(level: u8) -> u16 {
+        u16::from(level.min(254))
+    }
+
+    ghost bounded = { λ g h. omega arith };
+
+    ghost short = { omega arith };
+
+    ghost positive = { omega arith };
+}
+
+// A rule of another name, by which every level counts as in a whole tally.
+struct Tallied;
+
+impl Amount for Tallied {
+    ghost amount = { λ g. g };
+
+    fn amount(level: u8) -> u16 {
+        level.into()
+    }
+
+    ghost bounded = { λ g h. omega arith };
+
+    ghost short = { omega arith };
+
+    ghost positive = { omega arith };
+}
+
+#[test]
+fn sums_debugged(rt: HostRuntime) -> Result<(), Fail> {
+    let squares: Word<u32, Square> = Word::lift(5);
+    let large: Word<u64, Level> = Word::lift(5);
+    let short: Word<u16, Pixel> = Word::lift(5);
+    let capped: Word<u32, Capped> = Word::lift(5);
+    let tallied: Word<u32, Tallied> = Word::lift(5);
+    let text = format!(in rt.alloc(); "{squares:?} {large:?} {short:?} {capped:?} {tallied:?}")?;
+    assert_eq!(rt;
+        text.as_str(),
+        "Word { value: 25, .. } Word { value: 5, .. } Word { value: 1, .. } Word { value: 5, .. } Whole { value: 5 }"
     );
     Ok(())
 }
