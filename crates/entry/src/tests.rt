@@ -77,7 +77,7 @@ fn debugged(rt: HostRuntime) -> Result<(), Fail> {
     Ok(())
 }
 
-// Every level counts as it does in a whole tally, but for the last, as no rule of this crate has it.
+// A level counts itself, but for 255, which counts 254: the rule of no kind.
 struct Capped;
 
 impl Amount for Capped {
@@ -94,14 +94,14 @@ impl Amount for Capped {
     ghost positive = { omega arith };
 }
 
-// A rule of another name, by which every level counts as in a whole tally.
+// The rule of the whole tally under another name.
 struct Tallied;
 
 impl Amount for Tallied {
     ghost amount = { λ g. g };
 
     fn amount(level: u8) -> u16 {
-        level.into()
+        Level::amount(level)
     }
 
     ghost bounded = { λ g h. omega arith };

@@ -8,7 +8,7 @@ use crate::word::Word;
 use std::fmt;
 use std::fmt::Debug;
 
-// A whole tally, as an ink count shows it.
+// What an ink count shows of itself. It is printed under its own name, so it has that of the whole tally; as a word of level sums it would be printed by the `impl` below from within itself, which the check does not prove alone.
 #[derive(Clone, Copy, Debug)]
 struct Whole<U> {
     value: U,
@@ -39,7 +39,7 @@ impl<U: Unsigned + Debug, A: Amount> Debug for Word<U, A> {
         match U::largest() {
             0xFFFF if is_alike::<A, Level>() => self.debug_as("Narrow", f),
             0xFFFF_FFFF if is_alike::<A, Level>() => self.debug_as("Whole", f),
-            // an ink count is a tally of ink pixels
+            // an ink count is a whole tally of ink pixels
             0xFFFF_FFFF if is_alike::<A, Pixel>() => f
                 .debug_struct("Ink")
                 .field("tally", &Whole { value: self.value })
